@@ -29,7 +29,7 @@ after_call files (append name bytes) = with_file files name (bytes_at files name
 after_call files (write_at name at bytes) = with_file files name (patched (bytes_at files name) at bytes)
 
 -- the files after all of the calls
-unfoldable pub files_after_all : Files → List StoreCall → Files
+abbrev pub files_after_all : Files → List StoreCall → Files
 files_after_all files calls = fold after_call files calls
 
 -- the files after the first n calls

@@ -65,14 +65,14 @@ size_of_slabs dims [] = 0
 size_of_slabs dims (v ∷ []) = if is_narrow v then slab_size dims v else padded_size dims v
 size_of_slabs dims (v ∷ w ∷ vs) = sum_by (padded_size dims) (v ∷ w ∷ vs)
 
-unfoldable pub record_size : Header → ℕ
+abbrev pub record_size : Header → ℕ
 record_size h = size_of_slabs h.dims (record_vars h)
 
-unfoldable pub fixed_size : Header → ℕ
+abbrev pub fixed_size : Header → ℕ
 fixed_size h = sum_by (padded_size h.dims) (fixed_vars h)
 
 -- a file with so many records, counted as at least one
-unfoldable pub file_size : Header → ℕ → ℕ
+abbrev pub file_size : Header → ℕ → ℕ
 file_size h records = length (header_bytes h) + fixed_size h + max 1 records * record_size h
 
 -- the most that a file of a version may have
