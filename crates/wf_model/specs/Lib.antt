@@ -30,7 +30,6 @@ pub mod Core
 pub mod Replay
 pub mod Lockstep
 pub mod Held
-pub mod Sound
 pub mod Answer
 pub mod CdfRead
 pub mod Reading
@@ -55,6 +54,9 @@ pub mod PlanDomains
 pub mod PlanFields
 pub mod Counts
 pub mod PlanTests
+pub mod ExprFacts
+pub mod Ranges
+pub mod Sound
 pub mod PlanOf
 pub mod InputOf
 pub mod Uncovered
