@@ -1,8 +1,9 @@
 -- Which bytes are a header in the netCDF classic format, and which bytes of a file are a slab of a record.
-use Rattle.std.specs.Prelude.{◌≡◌, ℕ, zero, suc, ◌+◌, ◌*◌, ◌/◌, ◌==◌, Bool, true, false, not, ◌&&◌, ◌||◌, nat_lt, nat_le, List, [], ◌∷◌, length, take, drop, map, fold, find, filter, ℤ, Option, Some, None, Result, Ok, Err, if◌then◌else◌, slice_index, slice_index_or}
+use Rattle.std.specs.Prelude.{◌≡◌, ℕ, zero, suc, ◌+◌, ◌*◌, ◌==◌, Bool, true, false, not, ◌&&◌, ◌||◌, nat_lt, nat_le, List, [], ◌∷◌, length, take, drop, map, find, ℤ, Option, Some, None, Result, Ok, Err, if◌then◌else◌}
 use Rattle.std.specs.List.{range_with_len}
 use Rattle.std.specs.Int.{cast_signed, w32}
 use Rattle.std.specs.Str.{bytes_eq}
+use Rattle.std.specs.Slice.Scan.{big_endian}
 use Rattle.wf_model.specs.declared.header.Header.{Header}
 use Rattle.wf_model.specs.declared.header.Dim.{Dim}
 use Rattle.wf_model.specs.declared.header.Att.{Att}
@@ -21,19 +22,15 @@ abbrev pub then_read : {A B : Type 0} → Result (A × ℕ) CdfError → (A → 
 then_read (Ok p) next = next p.0 p.1
 then_read (Err e) next = Err e
 
-abbrev pub fail : {A : Type 0} → CdfError → Reading A
-fail e bytes at = Err e
-
 -- n bytes; a file that ends inside them is cut off
 abbrev pub raw : ℕ → Reading (List ℕ)
 raw n bytes at = if nat_le (at + n) (length bytes) then Ok (take n (drop at bytes), at + n) else Err (cdf.Truncated (length bytes))
 
-abbrev pub big_endian : List ℕ → ℕ
-big_endian bs = fold (λ a b. a * 256 + b) 0 bs
-
+-- a number of so many bytes, the highest of them first
 abbrev pub number : ℕ → Reading ℕ
-number size bytes at = then_read (raw size bytes at) λ bs next. Ok (big_endian bs, next)
+number size bytes at = then_read (raw size bytes at) λ bs next. Ok (big_endian 0 bs, next)
 
+-- the greatest count, length or rank
 abbrev pub most : ℕ
 most = 2147483647
 
@@ -41,6 +38,7 @@ most = 2147483647
 abbrev pub count : Reading ℕ
 count bytes at = then_read (number 4 bytes at) λ n next. if nat_le n most then Ok (n, next) else Err (cdf.Overlong at)
 
+-- n bytes, and what fills them up to a multiple of four, which may be anything
 abbrev pub padded_bytes : ℕ → Reading (List ℕ)
 padded_bytes n bytes at = then_read (raw (rounded n) bytes at) λ bs next. Ok (take n bs, next)
 
@@ -62,10 +60,7 @@ tagged wanted tag start bytes at =
 abbrev pub list_size : ℕ → Reading ℕ
 list_size wanted bytes at = then_read (number 4 bytes at) λ tag next. tagged wanted tag at bytes next
 
-abbrev pub dim : Reading Dim
-dim bytes at = then_read (name bytes at) λ n next. then_read (count bytes next) λ l last. Ok (record { name = n; len = l }, last)
-
--- dimensions, of which at most one is the record's
+-- dimensions, of which at most one is the record's: whether one was seen, and how many follow
 abbrev pub dims : ℕ → Bool → Reading (List Dim)
 dims zero seen bytes at = Ok ([], at)
 dims (suc n) seen bytes at =
@@ -150,16 +145,14 @@ HeaderAt bytes h = header_at bytes ≡ Ok h
 
 -- ---- slabs
 
-abbrev pub same_numbers : List ℕ → List ℕ → Bool
-same_numbers xs ys = bytes_eq xs ys
-
+-- a variable's bytes in a record: they are of this type and shape, or why there are none
 abbrev pub slab_bytes_of : List ℕ → Header → Option Var → ℕ → List ℕ → ℕ → Result (List ℕ) SlabError
 slab_bytes_of bytes h None type shape rec = Err slab.NoVariable
 slab_bytes_of bytes h (Some v) type shape rec =
     let at = v.begin + rec * record_size h in
     let size = product shape * type_size type in
     if not (v.kind == type) then Err slab.WrongType
-    else (if not (is_record_var h.dims v && (same_numbers (lengths h.dims (rest_of v.dims)) shape && nat_lt rec h.numrecs)) then Err slab.WrongShape
+    else (if not (is_record_var h.dims v && (bytes_eq (lengths h.dims (rest_of v.dims)) shape && nat_lt rec h.numrecs)) then Err slab.WrongShape
     else (if nat_lt (length bytes) (at + size) then Err (slab.Truncated (length bytes)) else Ok (take size (drop at bytes))))
 
 abbrev pub has_name : List ℕ → Var → Bool
@@ -169,7 +162,7 @@ unfoldable pub chars_at : List ℕ → Header → List ℕ → ℕ → ℕ → R
 chars_at bytes h n len rec = slab_bytes_of bytes h (find (has_name n) h.vars) 2 (len ∷ []) rec
 
 abbrev pub ints : ℕ → List ℕ → List ℤ
-ints n bytes = map (λ m. cast_signed w32 (big_endian (take 4 (drop (4 * m) bytes)))) (range_with_len 0 n)
+ints n bytes = map (λ m. cast_signed w32 (big_endian 0 (take 4 (drop (4 * m) bytes)))) (range_with_len 0 n)
 
 abbrev pub ints_of : ℕ → Result (List ℕ) SlabError → Result (List ℤ) SlabError
 ints_of n (Ok bs) = Ok (ints n bs)

@@ -39,18 +39,15 @@ dim_z plan f = dim (dim_name (field_of plan f).z_name (field_of plan f).stag_z) 
 abbrev pub dims_of_level : Plan → ℕ → ℕ → List Dim
 dims_of_level plan d f = dim_x plan d f ∷ dim_y plan d f ∷ (if (field_of plan f).z then dim_z plan f ∷ [] else [])
 
-abbrev pub has_name : List ℕ → Dim → Bool
-has_name name x = bytes_eq x.name name
-
 -- each name once, where it comes first
 abbrev pub add_dim : List Dim → Dim → List Dim
-add_dim known x = if list_any (has_name x.name) known then known else (known ++ (x ∷ []))
+add_dim known x = if list_any (λ (y : Dim). bytes_eq y.name x.name) known then known else (known ++ (x ∷ []))
 
 unfoldable pub dims_of : Plan → ℕ → ℕ → List Dim
 dims_of plan d stream = fold add_dim (dim (codes "Time") 0 ∷ dim (codes "DateStrLen") 19 ∷ []) (flat_map (dims_of_level plan d) (stream_levels plan stream))
 
 abbrev pub dim_number : List Dim → Dim → ℕ
-dim_number dims x = position_or_len (has_name x.name) dims
+dim_number dims x = position_or_len (λ (y : Dim). bytes_eq y.name x.name) dims
 
 abbrev pub letters : Field → List ℕ
 letters field = (if field.stag_x then codes "X" else []) ++ (if field.stag_y then codes "Y" else []) ++ (if field.stag_z then codes "Z" else [])

@@ -2,6 +2,7 @@
 use Rattle.std.specs.Prelude.{ℕ, ◌+◌, ◌*◌, ◌==◌, Bool, true, false, not, ◌&&◌, ◌||◌, nat_le, List, [], ◌∷◌, ◌++◌, length, map, filter, find, replicate, ℤ, pos, int_lt, int_le, Option, Some, None, Result, Ok, Err, if◌then◌else◌, codes, unwrap_or}
 use Rattle.std.specs.List.{list_any}
 use Rattle.std.specs.Str.{bytes_eq}
+use Rattle.std.specs.Slice.Scan.{big_endian}
 use Rattle.wf_model.specs.declared.plan.Plan.{Plan}
 use Rattle.wf_model.specs.declared.header.Header.{Header}
 use Rattle.wf_model.specs.declared.header.Att.{Att}
@@ -22,7 +23,7 @@ use Rattle.wf_model.specs.Script.{restart_stream, not_before}
 use Rattle.wf_model.specs.Streams.{file_x, file_y, file_name, variable_name}
 use Rattle.wf_model.specs.Headers.{text_att}
 use Rattle.wf_model.specs.Sizes.{product}
-use Rattle.wf_model.specs.CdfRead.{header_at, slab_bytes_of, ints, big_endian}
+use Rattle.wf_model.specs.CdfRead.{header_at, slab_bytes_of, ints}
 use Rattle.wf_model.specs.CdfRead as cdf
 use Rattle.wf_model.specs.Files.{Files}
 
@@ -144,7 +145,7 @@ is_start_date a = (a.kind == 2) && is_stamp a.bytes
 
 -- one int of at most a thousand million
 abbrev pub is_steps : Att → Bool
-is_steps a = (a.kind == 4) && (a.count == 1) && nat_le (big_endian a.bytes) 1000000000
+is_steps a = (a.kind == 4) && (a.count == 1) && nat_le (big_endian 0 a.bytes) 1000000000
 
 abbrev pub start_date : Header → Att
 start_date h = att_named h (codes "START_DATE")
@@ -158,7 +159,7 @@ has_attributes h = is_start_date (start_date h) && is_steps (steps_att h)
 -- the start and so many steps lead to the restart's time
 abbrev pub leads_to : Plan → ℕ → Header → Bool
 leads_to plan d h =
-    seconds_before (moment_of (start_date h).bytes) + big_endian (steps_att h).bytes * (domain_of plan d).seconds == seconds_before (moment_of plan.start)
+    seconds_before (moment_of (start_date h).bytes) + big_endian 0 (steps_att h).bytes * (domain_of plan d).seconds == seconds_before (moment_of plan.start)
 
 abbrev pub is_restored : Plan → ℕ → Bool
 is_restored plan f = (field_of plan f).restart
@@ -172,7 +173,7 @@ restart_read plan d bytes =
     ∷ fault_if (has_attributes h && not (leads_to plan d h)) kind.WrongTime
     ∷ fault_unless (has_attributes h) kind.WrongAttribute
     ∷ [])) (record {
-      begin = record { steps = big_endian (steps_att h).bytes; start_text = (start_date h).bytes; resumed = true };
+      begin = record { steps = big_endian 0 (steps_att h).bytes; start_text = (start_date h).bytes; resumed = true };
       grids = grids_read plan d restart_stream (is_restored plan) bytes h;
     })
 

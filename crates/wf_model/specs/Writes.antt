@@ -1,5 +1,5 @@
 -- The store calls of a run, and its summary.
-use Rattle.std.specs.Prelude.{ℕ, ◌+◌, Bool, true, false, List, [], ◌∷◌, ◌++◌, length, map, flat_map, filter, sum, sum_by, if◌then◌else◌}
+use Rattle.std.specs.Prelude.{ℕ, ◌+◌, List, [], ◌∷◌, ◌++◌, length, map, flat_map, filter, nat_lt, sum, sum_by, if◌then◌else◌}
 use Rattle.wf_model.specs.declared.frame.Frame.{Frame}
 use Rattle.wf_model.specs.Files.{StoreCall, create, append, write_at}
 use Rattle.wf_model.specs.Plans.{begin_of}
@@ -16,14 +16,10 @@ abbrev pub header_of : RunData → Frame → List ℕ
 header_of r frame =
     header_bytes (placed (file_header r.plan frame.domain frame.stream (begin_of r.initial.begins frame.domain).start_text (steps_at r frame)))
 
-abbrev pub has_items : List ℕ → Bool
-has_items [] = false
-has_items (x ∷ xs) = true
-
 -- the bytes of a frame, `Times` first. `Times` alone is not padded
 unfoldable pub record_of : RunData → Frame → List (List ℕ)
 record_of r frame =
-    char_bytes (has_items (variables_of r frame)) frame.time
+    char_bytes (nat_lt 0 (length (variables_of r frame))) frame.time
     ∷ map (λ f. slab_bytes (slab_of r frame f)) (variables_of r frame)
 
 unfoldable pub frame_calls : RunData → Frame → List StoreCall
