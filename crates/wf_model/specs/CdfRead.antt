@@ -18,6 +18,7 @@ use Rattle.wf_model.specs.Sizes.{type_size, rounded, is_record_dim, dim_of, is_r
 abbrev pub Reading : Type 0 → Type 0
 Reading A = List ℕ → ℕ → Result (A × ℕ) CdfError
 
+-- what is read next, from the place behind, unless there was an error
 abbrev pub then_read : {A B : Type 0} → Result (A × ℕ) CdfError → (A → ℕ → Result (B × ℕ) CdfError) → Result (B × ℕ) CdfError
 then_read (Ok p) next = next p.0 p.1
 then_read (Err e) next = Err e
@@ -42,6 +43,7 @@ count bytes at = then_read (number 4 bytes at) λ n next. if nat_le n most then 
 abbrev pub padded_bytes : ℕ → Reading (List ℕ)
 padded_bytes n bytes at = then_read (raw (rounded n) bytes at) λ bs next. Ok (take n bs, next)
 
+-- a name: its length and its bytes
 abbrev pub name : Reading (List ℕ)
 name bytes at = then_read (count bytes at) λ n next. padded_bytes n bytes next
 
@@ -57,6 +59,7 @@ tagged wanted tag start bytes at =
     if tag == wanted then count bytes at
     else (if tag == 0 then (then_read (number 4 bytes at) λ n next. if n == 0 then Ok (0, next) else Err (cdf.BadTag start)) else Err (cdf.BadTag start))
 
+-- the number of items of a list whose tag is the wanted one
 abbrev pub list_size : ℕ → Reading ℕ
 list_size wanted bytes at = then_read (number 4 bytes at) λ tag next. tagged wanted tag at bytes next
 
@@ -69,9 +72,11 @@ dims (suc n) seen bytes at =
     if (l == 0) && seen then Err (cdf.BadDim next)
     else (then_read (dims n (seen || (l == 0)) bytes last) λ ds end. Ok (record { name = m; len = l } ∷ ds, end))
 
+-- a type, which is 1 to 6
 abbrev pub kind : Reading ℕ
 kind bytes at = then_read (number 4 bytes at) λ n next. if nat_le 1 n && nat_le n 6 then Ok (n, next) else Err (cdf.BadType at)
 
+-- an attribute: name, type, count and values
 abbrev pub att : Reading Att
 att bytes at =
     then_read (name bytes at) λ n a1.
@@ -80,6 +85,7 @@ att bytes at =
     then_read (padded_bytes (c * type_size t) bytes a3) λ bs a4.
     Ok (record { name = n; kind = t; count = c; bytes = bs }, a4)
 
+-- a list of attributes
 abbrev pub atts : Reading (List Att)
 atts bytes at = then_read (list_size 12 bytes at) λ n next. items att n bytes next
 
@@ -89,14 +95,17 @@ dim_number ds first bytes at =
     then_read (number 4 bytes at) λ n next.
     if nat_lt n (length ds) && (first || not (is_record_dim (dim_of ds n))) then Ok (n, next) else Err (cdf.BadDim at)
 
+-- a variable's dimensions, the first of which may be the record's
 abbrev pub dim_numbers : List Dim → Bool → ℕ → Reading (List ℕ)
 dim_numbers ds first zero bytes at = Ok ([], at)
 dim_numbers ds first (suc n) bytes at =
     then_read (dim_number ds first bytes at) λ x next. then_read (dim_numbers ds false n bytes next) λ xs last. Ok (x ∷ xs, last)
 
+-- the bytes of a begin
 abbrev pub begin_size : ℕ → ℕ
 begin_size version = if version == 1 then 4 else 8
 
+-- a variable: name, rank, dimensions, attributes, type, size and begin
 abbrev pub var : ℕ → List Dim → Reading Var
 var version ds bytes at =
     then_read (name bytes at) λ n a1.
@@ -114,12 +123,15 @@ letters [] bytes at = Ok ([], at)
 letters (c ∷ cs) bytes at =
     then_read (number 1 bytes at) λ b next. if b == c then letters cs bytes next else Err cdf.NotCdf
 
+-- version 1 or 2
 abbrev pub version_byte : Reading ℕ
 version_byte bytes at = then_read (number 1 bytes at) λ v next. if (v == 1) || (v == 2) then Ok (v, next) else Err cdf.Version
 
+-- the number of records, which is no count: all ones is the streaming form
 abbrev pub record_count : Reading ℕ
 record_count bytes at = then_read (number 4 bytes at) λ n next. if n == 4294967295 then Err cdf.Streaming else Ok (n, next)
 
+-- the header at the front of the bytes and its length, or the first error
 unfoldable pub header_from : List ℕ → Result (Header × ℕ) CdfError
 header_from bytes =
     then_read (letters (67 ∷ 68 ∷ 70 ∷ []) bytes 0) λ magic a1.
@@ -132,6 +144,7 @@ header_from bytes =
     then_read (items (var version ds) m bytes a7) λ vs a8.
     Ok (record { version = version; numrecs = numrecs; dims = ds; atts = as_; vars = vs }, a8)
 
+-- without its length
 abbrev pub only_header : Result (Header × ℕ) CdfError → Result Header CdfError
 only_header (Ok p) = Ok p.0
 only_header (Err e) = Err e
@@ -140,6 +153,7 @@ only_header (Err e) = Err e
 unfoldable pub header_at : List ℕ → Result Header CdfError
 header_at bytes = only_header (header_from bytes)
 
+-- the bytes begin with the header
 abbrev pub HeaderAt : List ℕ → Header → Type 0
 HeaderAt bytes h = header_at bytes ≡ Ok h
 
@@ -155,15 +169,19 @@ slab_bytes_of bytes h (Some v) type shape rec =
     else (if not (is_record_var h.dims v && (bytes_eq (lengths h.dims (rest_of v.dims)) shape && nat_lt rec h.numrecs)) then Err slab.WrongShape
     else (if nat_lt (length bytes) (at + size) then Err (slab.Truncated (length bytes)) else Ok (take size (drop at bytes))))
 
+-- the variable has this name
 abbrev pub has_name : List ℕ → Var → Bool
 has_name n v = bytes_eq v.name n
 
+-- the characters of a variable's slab in a record, or why there are none
 unfoldable pub chars_at : List ℕ → Header → List ℕ → ℕ → ℕ → Result (List ℕ) SlabError
 chars_at bytes h n len rec = slab_bytes_of bytes h (find (has_name n) h.vars) 2 (len ∷ []) rec
 
+-- whole numbers of four bytes, n of them
 abbrev pub ints : ℕ → List ℕ → List ℤ
 ints n bytes = map (λ m. cast_signed w32 (big_endian 0 (take 4 (drop (4 * m) bytes)))) (range_with_len 0 n)
 
+-- the same of bytes that were found
 abbrev pub ints_of : ℕ → Result (List ℕ) SlabError → Result (List ℤ) SlabError
 ints_of n (Ok bs) = Ok (ints n bs)
 ints_of n (Err e) = Err e

@@ -43,9 +43,11 @@ demo_grid nx ny n = listed 1 ny nx (λ k j i. pos (demo_value nx ny n j i))
 
 -- ---- the store calls
 
+-- the one file
 abbrev pub demo_file : Text
 demo_file = codes "wrfout_d01_2000-01-01_00:00:00"
 
+-- the header of its file
 abbrev pub demo_header : ℕ → ℕ → ℕ → List ℕ
 demo_header nx ny steps = header_bytes (placed (file_header (demo_plan nx ny steps) 1 0 case_start 0))
 
@@ -53,6 +55,7 @@ demo_header nx ny steps = header_bytes (placed (file_header (demo_plan nx ny ste
 abbrev pub demo_time : ℕ → List ℕ
 demo_time n = padded (time_text case_start (60 * n))
 
+-- the frame after n steps: its time, its grid, and the new number of records
 abbrev pub demo_frame : ℕ → ℕ → ℕ → List StoreCall
 demo_frame nx ny n =
     append demo_file (demo_time n) ∷ append demo_file (slab_bytes (demo_grid nx ny n)) ∷ write_at demo_file 4 (four_bytes (n + 1)) ∷ []
@@ -71,6 +74,7 @@ demo_calls d = create demo_file ∷ append demo_file (demo_header d.nx d.ny d.st
 abbrev pub frame_sum : ℕ → ℕ → ℕ → ℕ
 frame_sum nx ny n = sum (demo_time n) + sum (slab_bytes (demo_grid nx ny n))
 
+-- one file, a record at the start and after each step, and their bytes
 abbrev pub demo_summary : Demo → Summary
 demo_summary d = record {
   files = 1;
@@ -83,6 +87,7 @@ demo_summary d = record {
 abbrev pub first_column : ℕ → ℕ → ℕ → ℕ
 first_column nx px p = p * nx / px + 1
 
+-- one past its last column
 abbrev pub end_column : ℕ → ℕ → ℕ → ℕ
 end_column nx px p = (p + 1) * nx / px + 1
 
@@ -102,6 +107,7 @@ held_columns d p =
     let end = end_column d.nx d.px p in
     if_column d.nx (d.steps - 1) (first - 1) ++ map (λ i. (d.steps, i)) (range_with_len first (end - first)) ++ if_column d.nx (d.steps - 1) end
 
+-- a patch's line: its cells and their sum
 abbrev pub demo_memory : Demo → ℕ → MemoryLine
 demo_memory d p = record {
   domain = 1;
@@ -110,6 +116,7 @@ demo_memory d p = record {
   sum = pos (sum_by (λ c. column_sum d.nx d.ny c.0 c.1) (held_columns d p));
 }
 
+-- the lines of all patches
 abbrev pub demo_memories : Demo → List MemoryLine
 demo_memories d = map (demo_memory d) (range_with_len 0 d.px)
 
@@ -128,6 +135,7 @@ word_number low high word =
 abbrev pub word_at : List Text → ℕ → Text
 word_at words n = slice_index_or words n []
 
+-- points in x and in y, steps, patches, and whether each patch has a line
 abbrev pub demo_numbers : Text → Text → Text → Text → Bool → Option Demo
 demo_numbers x y n p each =
     and_then (word_number 1 200 x) λ nx.
@@ -145,6 +153,7 @@ demo_of words =
 
 -- ---- the answer
 
+-- the answer to any other words
 abbrev pub usage : Answer
 usage = record { status = 1; text = line (codes "usage: wrftool COMMAND [WORDS]" ∷ []); calls = [] }
 
@@ -154,6 +163,7 @@ demo_answer d =
     if nat_lt d.nx d.px then refused (layout_refusal (TooManyPatches 1 d.px))
     else record { status = 0; text = summary_line (demo_summary d) ++ memory_text (how d.each) (demo_memories d); calls = demo_calls d }
 
+-- the answer to a demo that is asked for, or else the usage
 abbrev pub asked_answer : Option Demo → Answer
 asked_answer None = usage
 asked_answer (Some d) = demo_answer d

@@ -18,11 +18,13 @@ bytes_at files name = unwrap_or (files name) []
 abbrev pub patched : List ℕ → ℕ → List ℕ → List ℕ
 patched old at bytes = take at old ++ bytes ++ drop (at + length bytes) old
 
+-- a call: make the name hold no bytes, add bytes at its end, or replace its bytes from a place on
 pub data StoreCall : Type 0 where
   create : List ℕ → StoreCall
   append : List ℕ → List ℕ → StoreCall
   write_at : List ℕ → ℕ → List ℕ → StoreCall
 
+-- the files after a call that went well
 abbrev pub after_call : Files → StoreCall → Files
 after_call files (create name) = with_file files name []
 after_call files (append name bytes) = with_file files name (bytes_at files name ++ bytes)

@@ -14,6 +14,7 @@ IsCount n = n < 2 ^ 31
 abbrev pub IsKind : ℕ → Type 0
 IsKind kind = (1 ≤ kind) × (kind ≤ 6)
 
+-- its name and its length are counts
 pub record IsSoundDim (d : Dim) : Type 0 where
   pub name : IsCount (length d.name)
   pub len : IsCount d.len
@@ -35,6 +36,7 @@ pub record IsSoundVar (dims : List Dim) (v : Var) : Type 0 where
   pub count : IsCount (length v.atts)
   pub atts : All IsSoundAtt v.atts
 
+-- version 1 or 2, not of streaming form, at most one record dimension, and all its parts sound
 pub record IsSoundHeader (h : Header) : Type 0 where
   pub version : (h.version ≡ 1) ⊎ (h.version ≡ 2)
   pub numrecs : h.numrecs < 2 ^ 32 - 1
