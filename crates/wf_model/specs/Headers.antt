@@ -22,7 +22,7 @@ text_att name text = record { name = name; kind = 2; count = length text; bytes 
 abbrev pub int_att : List ℕ → ℕ → Att
 int_att name n = record { name = name; kind = 4; count = 1; bytes = four_bytes n }
 
--- a staggered dimension has a name of its own
+-- the name of a dimension: a staggered one has its own
 abbrev pub dim_name : List ℕ → Bool → List ℕ
 dim_name name staggered = if staggered then name ++ codes "_stag" else name
 
@@ -46,7 +46,7 @@ dim_z plan f = dim (dim_name (field_of plan f).z_name (field_of plan f).stag_z) 
 abbrev pub dims_of_level : Plan → ℕ → ℕ → List Dim
 dims_of_level plan d f = dim_x plan d f ∷ dim_y plan d f ∷ (if (field_of plan f).z then dim_z plan f ∷ [] else [])
 
--- each name once, where it comes first
+-- a dimension more, but each name once, where it comes first
 abbrev pub add_dim : List Dim → Dim → List Dim
 add_dim known x = if list_any (λ (y : Dim). bytes_eq y.name x.name) known then known else (known ++ (x ∷ []))
 
@@ -83,7 +83,7 @@ level_var plan d stream dims f = record {
 abbrev pub times_var : Var
 times_var = record { name = codes "Times"; dims = 0 ∷ 1 ∷ []; atts = []; kind = 2; vsize = 0; begin = 0 }
 
--- with no record, and nothing placed
+-- the header of a file, with no record and nothing placed
 unfoldable pub file_header : Plan → ℕ → ℕ → List ℕ → ℕ → Header
 file_header plan d stream start_text steps = record {
   version = plan.version;
@@ -105,7 +105,7 @@ abbrev pub placed_var : List Dim → ℕ → Var → Var
 placed_var dims at v =
     record { name = v.name; dims = v.dims; atts = v.atts; kind = v.kind; vsize = vsize_of (padded_size dims v); begin = at }
 
--- by the places of the next fixed and of the next record variable
+-- the variables, each placed: by the places of the next fixed and of the next record variable
 abbrev pub placed_from : List Dim → ℕ → ℕ → List Var → List Var
 placed_from dims fixed moving [] = []
 placed_from dims fixed moving (v ∷ vs) =
@@ -113,7 +113,7 @@ placed_from dims fixed moving (v ∷ vs) =
     then placed_var dims moving v ∷ placed_from dims fixed (moving + padded_size dims v) vs
     else placed_var dims fixed v ∷ placed_from dims (fixed + padded_size dims v) moving vs
 
--- data begins at the header's end
+-- a header with all its variables placed: data begins at the header's end
 unfoldable pub placed : Header → Header
 placed h = record {
   version = h.version;
