@@ -1,5 +1,5 @@
 -- Why there is no plan: the tests in their order, each by domain and then in Registry or table order.
-use Rattle.std.specs.Prelude.{ℕ, ◌+◌, ◌-◌, ◌*◌, ◌/◌, ◌%◌, ◌==◌, Bool, false, not, ◌&&◌, ◌||◌, nat_lt, List, [], ◌∷◌, ◌++◌, length, map, flat_map, filter, ℤ, pos, ◌+ℤ◌, ◌-ℤ◌, int_lt, int_le, Option, if◌then◌else◌, codes, slice_index_or, slice_index}
+use Rattle.std.specs.Prelude.{ℕ, ◌+◌, ◌-◌, ◌*◌, ◌/◌, ◌%◌, ◌==◌, Bool, false, not, ◌&&◌, ◌||◌, nat_lt, List, [], ◌∷◌, ◌++◌, length, map, flat_map, filter, take, ℤ, pos, ◌+ℤ◌, ◌-ℤ◌, int_lt, int_le, Option, if◌then◌else◌, codes, slice_index_or, slice_index}
 use Rattle.std.specs.List.{list_any, range_with_len}
 use Rattle.std.specs.Int.{int_rem_euclid, int_max}
 use Rattle.wf_model.specs.declared.namelist.Value.{Value}
@@ -22,7 +22,7 @@ use Rattle.wf_model.specs.Plans.{domain_of, field_of, domains_of, nx, ny}
 use Rattle.wf_model.specs.Patches.{Span}
 use Rattle.wf_model.specs.Reads.{Read, reads_of}
 use Rattle.wf_model.specs.Dates.{is_date, seconds_before, last_moment}
-use Rattle.wf_model.specs.PlanDomains.{amount, start_moment, run_seconds, minutes}
+use Rattle.wf_model.specs.PlanDomains.{amount, domain_total, start_moment, run_seconds, minutes}
 use Rattle.wf_model.specs.PlanFields.{z_extents, lacks_hook, levels_with}
 use Rattle.wf_model.specs.Sizes.{most_bytes}
 use Rattle.wf_model.specs.Counts.{all_cells, script_items, stream_bytes}
@@ -56,8 +56,9 @@ until_restart =
 abbrev pub unbuilt : List Unbuilt
 unbuilt = []
 
+-- values of domains past max_dom ask for nothing
 abbrev pub unbuilt_fault : Config → Unbuilt → Option PlanFault
-unbuilt_fault config u = fault_if (list_any u.asks (values_of config.values u.name)) (NotBuilt u.name)
+unbuilt_fault config u = fault_if (list_any u.asks (take (domain_total config) (values_of config.values u.name))) (NotBuilt u.name)
 
 -- ---- domains and times
 
