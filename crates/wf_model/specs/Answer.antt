@@ -1,5 +1,5 @@
 -- What a command answers: its status, what it prints, and its calls on the store.
-use Rattle.std.specs.Prelude.{ℕ, Bool, List, [], ◌∷◌, ◌++◌, length, flat_map, fold, sum_by, pos, ◌+ℤ◌, if◌then◌else◌, Result, Ok, Err, codes, decimal}
+use Rattle.std.specs.Prelude.{ℕ, Bool, List, [], ◌∷◌, ◌++◌, flat_map, fold, sum_by, pos, ◌+ℤ◌, if◌then◌else◌, Result, Ok, Err, codes, decimal}
 use Rattle.wf_model.specs.declared.plan.Plan.{Plan}
 use Rattle.wf_model.specs.declared.plan.Field.{Field}
 use Rattle.wf_model.specs.declared.plan.Item.{Item}

@@ -1,5 +1,5 @@
 -- What is counted of a plan before anything is read: cells, items of the script, bytes of files, events.
-use Rattle.std.specs.Prelude.{ℕ, ◌+◌, ◌-◌, ◌*◌, ◌/◌, ◌==◌, false, ◌&&◌, nat_lt, min, max, List, [], length, map, sum_by, pos, if◌then◌else◌, slice_index}
+use Rattle.std.specs.Prelude.{ℕ, ◌+◌, ◌-◌, ◌*◌, ◌/◌, ◌==◌, false, ◌&&◌, nat_lt, min, List, [], length, map, sum_by, pos, if◌then◌else◌, slice_index}
 use Rattle.wf_model.specs.declared.plan.Plan.{Plan}
 use Rattle.wf_model.specs.declared.initial.Begin.{Begin}
 use Rattle.wf_model.specs.declared.script.Act.{Act}

@@ -22,8 +22,9 @@ use Rattle.wf_model.specs.Plans.{domain_of, field_of, domains_of, nx, ny}
 use Rattle.wf_model.specs.Patches.{Span}
 use Rattle.wf_model.specs.Reads.{Read, reads_of}
 use Rattle.wf_model.specs.Dates.{is_date, seconds_before, last_moment}
+use Rattle.wf_model.specs.Entries.{entry_levels}
 use Rattle.wf_model.specs.PlanDomains.{amount, domain_total, start_moment, run_seconds, minutes}
-use Rattle.wf_model.specs.PlanFields.{z_extents, lacks_hook, levels_with}
+use Rattle.wf_model.specs.PlanFields.{z_extents, lacks_hook}
 use Rattle.wf_model.specs.Sizes.{most_bytes}
 use Rattle.wf_model.specs.Counts.{all_cells, script_items, stream_bytes}
 
@@ -128,7 +129,7 @@ interval_faults config plan d =
 
 -- a field is named by its first level
 abbrev pub hook_fault : List HookName → Entry → Option PlanFault
-hook_fault hooks e = fault_if (lacks_hook hooks e) (UnknownHook (slice_index_or (levels_with e) 0 (codes "")))
+hook_fault hooks e = fault_if (lacks_hook hooks e) (UnknownHook (slice_index_or (entry_levels e) 0 (codes "")))
 
 -- ---- reads of a phase's points
 
