@@ -14,7 +14,7 @@ use Rattle.wf_model.specs.declared.table.TableFault.{TableFault}
 use Rattle.wf_model.specs.Tokens.{tokens_of}
 use Rattle.wf_model.specs.Table.{table_of, item_of_text}
 use Rattle.wf_model.specs.GenCase.{lines}
-use Rattle.wf_cases.specs.Texts.{table_names}
+use Rattle.wf_cases.specs.Texts.{fault, table_names}
 
 abbrev pub read : List (List ℕ) → Result (List Item) TableFault
 read ls = table_of (lines ls) table_names
@@ -77,10 +77,6 @@ pub record TableTrees : Type 0 where
       whole_phase (roll-Expr (e.Call 1 (roll-Args (e.More (roll-Expr e.I) (roll-Args (e.More (num 100) (roll-Args (e.More (num 4) (roll-Args e.End)))))))))
 
 -- ---- limits
-
-abbrev pub fault : {A F : Type 0} → Result A F → Option F
-fault (Ok a) = None
-fault (Err f) = Some f
 
 -- a number within so many parentheses
 abbrev pub nested : ℕ → List ℕ

@@ -1,11 +1,15 @@
 -- The texts that the worked cases share: the base case's namelist, and lines that many cases begin with.
-use Rattle.std.specs.Prelude.{ℕ, false, List, [], ◌∷◌, ◌++◌, codes, None}
+use Rattle.std.specs.Prelude.{ℕ, false, List, [], ◌∷◌, ◌++◌, Option, Some, None, Result, Ok, Err, codes}
 use Rattle.wf_model.specs.declared.registry.SourceFile.{SourceFile}
 use Rattle.wf_model.specs.declared.table.Names.{Names}
 use Rattle.wf_model.specs.declared.table.HookName.{HookName}
 use Rattle.wf_model.specs.declared.table.HookKind.TheVariants.{Call, Interp, Average}
 use Rattle.wf_model.specs.Files.{Files, with_file}
 use Rattle.wf_model.specs.GenCase.{lines}
+
+abbrev pub fault : {A F : Type 0} → Result A F → Option F
+fault (Ok a) = None
+fault (Err f) = Some f
 
 -- ---- Registries
 
@@ -46,19 +50,29 @@ shipped_names =
 
 -- ---- namelists
 
-unfoldable pub base_namelist : List ℕ
-base_namelist = lines (
+-- the base case's namelist with another first line of `&domains`, the sixth, and another second, the seventh
+abbrev pub namelist_with : List ℕ → List ℕ → List ℕ
+namelist_with sixth seventh = lines (
     codes "&time_control" ∷
     codes " run_minutes = 1, start_year = 2000, start_month = 1, start_day = 1," ∷
     codes " history_interval = 1, frames_per_outfile = 10," ∷
     codes "/" ∷
     codes "&domains" ∷
-    codes " time_step = 60, max_dom = 1, nproc_x = 1, nproc_y = 1, numtiles = 1," ∷
-    codes " e_we = 4, e_sn = 4, e_vert = 2," ∷
+    sixth ∷
+    seventh ∷
     codes "/" ∷
     codes "&bdy_control" ∷
     codes " spec_bdy_width = 1, periodic_x = .false.," ∷
     codes "/" ∷ [])
+
+abbrev pub steps_and_patches : List ℕ
+steps_and_patches = codes " time_step = 60, max_dom = 1, nproc_x = 1, nproc_y = 1, numtiles = 1,"
+
+abbrev pub sizes : List ℕ
+sizes = codes " e_we = 4, e_sn = 4, e_vert = 2,"
+
+abbrev pub base_namelist : List ℕ
+base_namelist = namelist_with steps_and_patches sizes
 
 -- two domains, of which the second has parent 1; `start` is its first parent point in x, and `sizes` the rest
 abbrev pub nest_namelist : List ℕ → List ℕ → List ℕ
