@@ -21,7 +21,7 @@ use Rattle.wf_model.specs.Demo.{demo_of, demo_value}
 use Rattle.wf_cases.specs.DemoCases.{DemoOnePatch, DemoInItsOwnWords}
 
 -- the number of the demo's expression, where it is seen
-demo_number : (m : Answers) (s : Sight) → number_of m s demo_expr ≡
+pub demo_number : (m : Answers) (s : Sight) → number_of m s demo_expr ≡
     and_then (of_both (λ x y. in_i64 (x +ℤ y)) (of_both (λ x y. in_i64 (x +ℤ y)) (of_both (λ x y. in_i64 (x +ℤ y)) (of_both (λ x y. in_i64 (x +ℤ y))
     (of_both (λ x y. in_i64 (x *ℤ y)) (Some (pos 4)) (in_i64 (s.read 0 (pos 0) (pos 0) (pos 0)))) (in_i64 (s.read 0 (negsuc 0) (pos 0) (pos 0))))
     (in_i64 (s.read 0 (pos 1) (pos 0) (pos 0)))) (in_i64 (s.read 0 (pos 0) (pos 0) (negsuc 0)))) (in_i64 (s.read 0 (pos 0) (pos 0) (pos 1))))
