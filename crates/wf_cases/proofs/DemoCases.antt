@@ -1,5 +1,5 @@
 -- The demo on 3 by 3 points, computed.
-use Rattle.std.specs.Prelude.{◌≡◌, refl, [], ◌∷◌, pos, negsuc, Some, ◌+ℤ◌, ◌*ℤ◌}
+use Rattle.std.specs.Prelude.{◌≡◌, refl, pos, negsuc, Some, ◌+ℤ◌, ◌*ℤ◌}
 use Rattle.std.specs.Int.{int_div_euclid}
 use Rattle.wf_model.specs.declared.expr.Expr.{fold-roll-Expr}
 use Rattle.wf_model.specs.Numbers.{and_then, of_both, in_i64}

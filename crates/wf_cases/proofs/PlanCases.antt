@@ -1,7 +1,7 @@
 -- The worked cases of a plan's tests, computed.
 use Rattle.std.specs.Prelude.{◌≡◌, refl, [], ◌∷◌, pos, negsuc}
 use Rattle.wf_model.specs.declared.expr.Expr.{fold-roll-Expr}
-use Rattle.wf_model.specs.Reads.{Read, reads_of}
+use Rattle.wf_model.specs.Reads.{reads_of}
 use Rattle.wf_model.specs.Plans.{domain_of, field_of}
 use Rattle.wf_cases.specs.PlanCases.{west, ReadsAtTheEdge}
 

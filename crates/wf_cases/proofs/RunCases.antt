@@ -38,7 +38,7 @@ both_patches_overflow = record { point = simp fold-roll-Expr refl }
 
 pub extended_phase : ExtendedPhase
 unfolding grids_at begin_grids grids_after change_of changed table_change nothing grid_from domain_of field_of item_of begin_of script_of step_of children listed in_region
-extended_phase = record { a = simp (demo_number, neighbours_number) refl; b = simp (demo_number, neighbours_number) refl }
+extended_phase = record { a = simp demo_number refl; b = simp (demo_number, neighbours_number) refl }
 
 pub periodic_grid : PeriodicGrid
 unfolding grids_at begin_grids grids_after change_of changed table_change nothing grid_from domain_of field_of item_of begin_of script_of step_of children listed in_region

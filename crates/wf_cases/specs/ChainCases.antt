@@ -1,9 +1,8 @@
 -- Worked cases from the texts of a run to its refusal, or to what `check` prints.
 use Rattle.std.specs.Prelude.{ℕ, ◌≡◌, false, List, [], ◌∷◌, ◌++◌, Option, Some, None, Result, Ok, Err, pos, codes, decimal}
-use Rattle.wf_model.specs.declared.plan.Plan.{Plan}
 use Rattle.wf_model.specs.Refusals.{Refusal, refusal, line}
 use Rattle.wf_model.specs.FilesRead.{Planned, plan_read}
-use Rattle.wf_model.specs.Answer.{Outside, Answer, check, demo, command_answer}
+use Rattle.wf_model.specs.Answer.{Outside, check, demo, command_answer}
 use Rattle.wf_model.specs.Files.{Files}
 use Rattle.wf_model.specs.Plans.{domain_of}
 use Rattle.wf_model.specs.GenCase.{lines, case_registry}

@@ -1,13 +1,12 @@
 -- The demo on 3 by 3 points, one step: its grid, the bytes of its file, its summary and its memories.
-use Rattle.std.specs.Prelude.{ℕ, ◌≡◌, true, false, List, [], ◌∷◌, ◌++◌, flat_map, length, pos, Option, Some, None, codes}
+use Rattle.std.specs.Prelude.{ℕ, ◌≡◌, true, List, [], ◌∷◌, ◌++◌, flat_map, length, pos, Some, None, codes}
 use Rattle.wf_model.specs.declared.demo.Demo.{Demo}
 use Rattle.wf_model.specs.Outcome.{RunData, grids_at}
 use Rattle.wf_model.specs.Grids.{level_list}
-use Rattle.wf_model.specs.Bytes.{four_bytes, header_bytes, padded, slab_bytes}
+use Rattle.wf_model.specs.Bytes.{four_bytes, header_bytes}
 use Rattle.wf_model.specs.Headers.{file_header, placed}
-use Rattle.wf_model.specs.Files.{create, append, write_at, files_after}
-use Rattle.wf_model.specs.Writes.{Summary, writes_of, summary_of}
-use Rattle.wf_model.specs.Lockstep.{MemoryLine}
+use Rattle.wf_model.specs.Files.{files_after}
+use Rattle.wf_model.specs.Writes.{writes_of, summary_of}
 use Rattle.wf_model.specs.DemoCase.{case_start, demo_plan, demo_initial}
 use Rattle.wf_model.specs.Demo.{demo_file, demo_of, demo_memories, demo_summary}
 use Rattle.wf_cases.specs.Texts.{no_files}

@@ -1,5 +1,5 @@
 -- Worked cases of events: what may come when, and what the memories are at the end.
-use Rattle.std.specs.Prelude.{ℕ, ◌≡◌, true, false, Bool, List, [], ◌∷◌, ℤ, pos, map, is_some, codes}
+use Rattle.std.specs.Prelude.{ℕ, ◌≡◌, true, false, Bool, List, [], ◌∷◌, pos, map, is_some, codes}
 use Rattle.wf_model.specs.declared.event.Event.{Event}
 use Rattle.wf_model.specs.declared.event.Event.TheVariants.{Step, Take, Gather, Write}
 use Rattle.wf_model.specs.declared.plan.Item.TheVariants as item

@@ -4,7 +4,7 @@ use Rattle.wf_model.specs.declared.plan.Phase.{Phase}
 use Rattle.wf_model.specs.declared.plan.Item.{Item}
 use Rattle.wf_model.specs.declared.plan.Item.TheVariants as item
 use Rattle.wf_model.specs.declared.plan.Plan.{Plan}
-use Rattle.wf_model.specs.declared.expr.Expr.{Expr, roll-Expr}
+use Rattle.wf_model.specs.declared.expr.Expr.{roll-Expr}
 use Rattle.wf_model.specs.declared.expr.Args.TheOpen as e
 use Rattle.wf_model.specs.Covered.{Asked}
 use Rattle.wf_model.specs.Uncovered.{is_read_covered}

@@ -10,7 +10,7 @@ use Rattle.wf_model.specs.declared.plan_fault.InputKind.{InputKind}
 use Rattle.wf_model.specs.declared.plan_fault.InputKind.TheVariants as kind
 use Rattle.wf_model.specs.Bytes.{four_bytes, header_bytes, padded, slab_bytes}
 use Rattle.wf_model.specs.Headers.{file_header, placed, text_att, int_att}
-use Rattle.wf_model.specs.Files.{Files, with_file}
+use Rattle.wf_model.specs.Files.{with_file}
 use Rattle.wf_model.specs.InputOf.{input_of}
 use Rattle.wf_model.specs.DemoCase.{case_plan, case_field, case_start, case_values, demo_initial}
 use Rattle.wf_model.specs.GenCase.{case_input, one_record}

@@ -1,5 +1,5 @@
 -- Worked cases of lines and words.
-use Rattle.std.specs.Prelude.{ℕ, ◌≡◌, true, false, List, [], ◌∷◌, ◌++◌, Ok, Err, codes}
+use Rattle.std.specs.Prelude.{ℕ, ◌≡◌, true, false, List, [], ◌∷◌, Ok, Err, codes}
 use Rattle.wf_model.specs.declared.text.Word.{Word}
 use Rattle.wf_model.specs.declared.text.TextFault.TheVariants.{UnclosedQuote, DanglingBackslash}
 use Rattle.wf_model.specs.Lines.{lines_of, line}

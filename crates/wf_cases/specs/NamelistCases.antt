@@ -1,5 +1,5 @@
 -- Worked cases of namelists.
-use Rattle.std.specs.Prelude.{ℕ, ◌≡◌, ◌*◌, ◌^◌, true, false, List, [], ◌∷◌, ◌++◌, pos, negsuc, Result, Ok, Err, codes}
+use Rattle.std.specs.Prelude.{ℕ, ◌≡◌, true, false, List, [], ◌∷◌, pos, negsuc, Result, Ok, Err, codes}
 use Rattle.wf_model.specs.declared.namelist.Value.TheVariants.{Int, Decimal, Logical, Text}
 use Rattle.wf_model.specs.declared.namelist.Namelist.{Namelist}
 use Rattle.wf_model.specs.declared.namelist.NamelistKind.{NamelistKind}

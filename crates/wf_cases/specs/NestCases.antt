@@ -1,5 +1,5 @@
 -- Worked cases of nests: rounding, offsets, the order of the script, a start.
-use Rattle.std.specs.Prelude.{ℕ, ◌≡◌, ◌+◌, ◌*◌, ◌%◌, ◌==◌, true, false, if◌then◌else◌, List, [], ◌∷◌, map, ℤ, pos, negsuc, unsigned_abs, Some, slice_index_or, codes}
+use Rattle.std.specs.Prelude.{ℕ, ◌≡◌, ◌*◌, ◌%◌, ◌==◌, true, false, if◌then◌else◌, List, [], ◌∷◌, map, ℤ, pos, negsuc, unsigned_abs, Some, slice_index_or, codes}
 use Rattle.std.specs.List.{range_with_len}
 use Rattle.wf_model.specs.declared.plan.Domain.{Domain}
 use Rattle.wf_model.specs.declared.plan.Item.TheVariants as item

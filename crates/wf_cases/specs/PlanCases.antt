@@ -1,5 +1,5 @@
 -- Worked cases of a plan's tests: reads of a phase's points.
-use Rattle.std.specs.Prelude.{ℕ, ◌≡◌, List, [], ◌∷◌, pos, negsuc, Option, Some, None, codes}
+use Rattle.std.specs.Prelude.{ℕ, ◌≡◌, [], ◌∷◌, pos, negsuc, Option, Some, None, codes}
 use Rattle.wf_model.specs.declared.plan.Plan.{Plan}
 use Rattle.wf_model.specs.declared.plan.Phase.{Phase}
 use Rattle.wf_model.specs.declared.plan.Item.TheVariants as item

@@ -3,10 +3,8 @@ use Rattle.std.specs.Prelude.{ℕ, ◌≡◌, ◌*◌, Bool, true, false, replic
 use Rattle.wf_model.specs.declared.expr.Expr.{Expr, roll-Expr}
 use Rattle.wf_model.specs.declared.expr.Args.TheOpen as e
 use Rattle.wf_model.specs.declared.expr.Test.TheVariants.{Less, Equal}
-use Rattle.wf_model.specs.declared.plan.Phase.{Phase}
 use Rattle.wf_model.specs.declared.plan.Item.{Item}
 use Rattle.wf_model.specs.declared.plan.Item.TheVariants as item
-use Rattle.wf_model.specs.declared.point.Point.{Point}
 use Rattle.wf_model.specs.declared.point.What.TheVariants as what
 use Rattle.wf_model.specs.declared.script.Act.TheVariants.{Table}
 use Rattle.wf_model.specs.Grids.{level_list}

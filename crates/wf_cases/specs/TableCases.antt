@@ -1,10 +1,10 @@
 -- Worked cases of the stencil table.
-use Rattle.std.specs.Prelude.{ℕ, ◌≡◌, zero, suc, List, [], ◌∷◌, ◌++◌, map, replicate, flat_map, ℤ, pos, negsuc, Option, Some, None, Result, Ok, Err, codes}
+use Rattle.std.specs.Prelude.{ℕ, ◌≡◌, zero, suc, List, [], ◌∷◌, ◌++◌, map, replicate, flat_map, ℤ, pos, negsuc, Some, None, Result, Ok, Err, codes}
 use Rattle.std.specs.List.{range_with_len}
 use Rattle.wf_model.specs.declared.plan.Item.{Item}
 use Rattle.wf_model.specs.declared.plan.Item.TheVariants as item
 use Rattle.wf_model.specs.declared.expr.Expr.{Expr, roll-Expr}
-use Rattle.wf_model.specs.declared.expr.Args.{Args, roll-Args}
+use Rattle.wf_model.specs.declared.expr.Args.{roll-Args}
 use Rattle.wf_model.specs.declared.expr.Args.TheOpen as e
 use Rattle.wf_model.specs.declared.expr.Test.TheVariants.{Less}
 use Rattle.wf_model.specs.declared.table.Token.{Token}
