@@ -9,6 +9,7 @@ use Rattle.wf_model.specs.Letters.{Text, is_name, is_digits, digits_value, is_nu
 use Rattle.wf_model.specs.ValueForms.{has}
 use Rattle.wf_model.specs.Io.{is_colon}
 
+-- what is wrong in order, or nothing at each
 abbrev pub Faults : Type 0
 Faults = List (Option RegistryKind)
 
@@ -18,12 +19,15 @@ is_semicolon b = b == 59
 abbrev pub is_comma : ℕ → Bool
 is_comma b = b == 44
 
+-- the groups of a word
 abbrev pub groups_of : Text → List Text
 groups_of word = slice_split is_semicolon word
 
+-- what stands before the colon
 abbrev pub head_of : Text → Text
 head_of group = before_first is_colon group
 
+-- the names behind the colon
 abbrev pub names_in : Text → List Text
 names_in group = slice_split is_comma (after_first is_colon group)
 
@@ -34,6 +38,7 @@ group_faults head group =
 
 -- ---- heads: `state`, the points of a halo, the width of a period
 
+-- only state variables are listed
 abbrev pub state_head : Text → Option RegistryKind
 state_head head = fault_unless (bytes_eq head (codes "state")) Unsupported
 
@@ -43,8 +48,10 @@ radius_of points =
     if (points == 4) || (points == 8) then 1
     else (if points == 24 then 2 else (if points == 48 then 3 else (if points == 80 then 4 else (if points == 120 then 5 else (if points == 168 then 6 else 0)))))
 
+-- a number of points that a halo may have
 abbrev pub points_head : Text → Option RegistryKind
 points_head head = fault_unless (is_digits head && nat_lt 0 (radius_of (digits_value head))) BadPoints
 
+-- 1 to 6
 abbrev pub width_head : Text → Option RegistryKind
 width_head head = fault_unless (is_number_within 1 6 head) BadPoints

@@ -12,6 +12,7 @@ use Rattle.wf_model.specs.Reading.{◌>>=◌, or_fault}
 use Rattle.wf_model.specs.Letters.{Text, is_among}
 use Rattle.wf_model.specs.Tokens.{At, Reader, keyword, past, syntax, name_next}
 
+-- words of the language, which are no field names
 abbrev pub reserved : List Text
 reserved = codes "i" ∷ codes "j" ∷ codes "k" ∷ codes "step" ∷ codes "min" ∷ codes "max" ∷ codes "if" ∷ codes "then" ∷ codes "else" ∷ codes "call" ∷ codes "div" ∷ codes "mod" ∷ []
 
@@ -26,6 +27,7 @@ is_level name l = bytes_eq l.0 name
 abbrev pub level : Names → Reader ℕ
 level names at = field_name at >>= λ name. or_fault (position (is_level name) names.levels) UnknownField >>= λ f. Ok (f, past at)
 
+-- a level that has a z letter
 abbrev pub has_z : Option (Text × Bool) → Bool
 has_z None = false
 has_z (Some l) = l.1
@@ -34,9 +36,11 @@ has_z (Some l) = l.1
 abbrev pub most_dk : Names → ℕ → ℕ
 most_dk names f = if has_z (slice_get names.levels f) then 127 else 0
 
+-- of kind Call
 abbrev pub is_called : HookKind → Bool
 is_called hook.Call = true
 is_called other = false
 
+-- the stored function that a table may call by this name
 abbrev pub called_hook : Names → Text → Option HookName
 called_hook names name = find (λ (h : HookName). bytes_eq h.name name && is_called h.kind) names.hooks
