@@ -1,9 +1,8 @@
 -- A factor of an expression is read alike in each family of factors that has its room.
-use Rattle.std.proofs.Common.{◌≡◌, ℕ, zero, suc, ◌+◌, ◌<◌, ◌≤◌, refl, sym, ap, ◌∙◌, arith, Bool, true, false}
+use Rattle.std.proofs.Common.{◌≡◌, ℕ, zero, suc, ◌<◌, refl, sym, ap, arith, Bool, true, false}
 use Rattle.std.specs.Prelude.{◌==◌}
 use Rattle.wf_model.specs.declared.table.Names.{Names}
-use Rattle.wf_model.specs.Tokens.{Reader}
-use Rattle.wf_model.specs.ExprText.{Tree, factors_below, factor_with, reader_if}
+use Rattle.wf_model.specs.ExprText.{factors_below, factor_with, reader_if}
 
 -- numbers that the test takes for equal
 equal_of : (m n : ℕ) → (m == n) ≡ true → m ≡ n

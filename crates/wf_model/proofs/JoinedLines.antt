@@ -1,12 +1,12 @@
 -- The lines of a text, read line by line with the first fault alone, are those of `lines_from`.
-use Rattle.std.proofs.Common.{◌≡◌, ℕ, zero, suc, ◌+◌, ◌-◌, refl, sym, ap, ◌∙◌, arith, Bool, true, false, List, [], ◌∷◌, ◌++◌, length, Result, Ok, Err, Option, Some, None}
-use Rattle.std.specs.Prelude.{if◌then◌else◌, not, ◌==◌}
+use Rattle.std.proofs.Common.{◌≡◌, ℕ, suc, refl, ap, ◌∙◌, Bool, true, false, List, [], ◌∷◌, ◌++◌, Result, Ok, Err, Option, Some, None}
+use Rattle.std.specs.Prelude.{if◌then◌else◌}
 use Rattle.wf_model.specs.declared.text.TextFault.{TextFault}
 use Rattle.wf_model.specs.declared.text.TextFault.TheVariants.{DanglingBackslash}
 use Rattle.wf_model.specs.declared.text.Line.{Line}
 use Rattle.wf_model.specs.declared.text.Word.{Word}
 use Rattle.wf_model.specs.Reading.{◌>>=◌, unless_fault}
-use Rattle.wf_model.specs.Lines.{LinesRead, line, last_of, goes_on, without_backslash, words_from, lines_from, close, close_read, attach}
+use Rattle.wf_model.specs.Lines.{LinesRead, line, last_of, goes_on, without_backslash, words_from, lines_from, close_read, attach}
 
 -- a line that goes on, joined with the next
 pub attach_one : ℕ → List Word → List Line → Result (List Line) TextFault
