@@ -1,5 +1,5 @@
 -- What a command answers: its status, what it prints, and its calls on the store.
-use Rattle.std.specs.Prelude.{ℕ, Bool, List, [], ◌∷◌, ◌++◌, length, flat_map, fold, sum_by, pos, ◌+ℤ◌, if◌then◌else◌, Result, Ok, Err, codes, decimal}
+use Rattle.std.specs.Prelude.{ℕ, Bool, List, [], ◌∷◌, ◌++◌, flat_map, fold, sum_by, pos, ◌+ℤ◌, if◌then◌else◌, Result, Ok, Err, codes, decimal}
 use Rattle.wf_model.specs.declared.plan.Plan.{Plan}
 use Rattle.wf_model.specs.declared.plan.Field.{Field}
 use Rattle.wf_model.specs.declared.plan.Item.{Item}
@@ -25,6 +25,7 @@ use Rattle.wf_model.specs.FilesRead.{plan_read, layout_read, inputs_read}
 use Rattle.wf_model.specs.DemoCase.{demo_plan, demo_initial, demo_layout}
 use Rattle.wf_model.specs.GenCase.{gen_calls}
 
+-- status, printed text, and the calls that write
 pub record Answer : Type 0 where
   pub status : ℕ
   pub text : List ℕ
@@ -66,11 +67,13 @@ pub data Memories : Type 0 where
   in_total : Memories
   by_patch : Memories
 
+-- the memories as they are asked for
 abbrev pub memory_text : Memories → List MemoryLine → List ℕ
 memory_text unsaid ms = []
 memory_text in_total ms = total_line ms
 memory_text by_patch ms = flat_map patch_line ms
 
+-- a run that ends, or one that overflows
 abbrev pub ended_as : RunData → Layout → Memories → Result Grids Overflow → Answer
 ended_as r layout shown (Ok g) = record { status = 0; text = summary_line (summary_of r) ++ memory_text shown (memory_report r layout); calls = writes_of r }
 ended_as r layout shown (Err o) = record { status = 8; text = overflow_line r.plan o.point; calls = writes_of r }
@@ -80,9 +83,11 @@ run_answer r layout shown = ended_as r layout shown (outcome_of r)
 
 -- ---- the chain of tests: the first refusal is the answer
 
+-- a refusal has no calls
 abbrev pub refused : Refusal → Answer
 refused x = record { status = x.status; text = x.line; calls = [] }
 
+-- what follows, unless there is a refusal
 abbrev pub after : {A : Type 0} → Result A Refusal → (A → Answer) → Answer
 after (Ok a) next = next a
 after (Err x) next = refused x
@@ -105,6 +110,7 @@ pub record Outside : Type 0 where
 abbrev pub how : Bool → Memories
 how each = if each then by_patch else in_total
 
+-- what `check` prints
 abbrev pub accepted_text : Plan → List ℕ
 accepted_text plan = flat_map (λ (f : Field). line (codes "field" ∷ f.name ∷ [])) plan.fields ++ line (codes "accepted" ∷ [])
 
@@ -123,6 +129,7 @@ module _ (outside : Outside) where
   abbrev pub after_calls : List StoreCall → Answer → Answer
   after_calls calls a = record { status = a.status; text = a.text; calls = calls ++ a.calls }
 
+  -- what a command answers
   abbrev pub command_answer : Files → Command → Answer
   command_answer files (demo x y steps px each) =
       after (told_as layout_refusal (demo_layout x px)) λ layout. run_answer (run_of (demo_plan x y steps) (demo_initial x y)) layout (how each)
@@ -139,5 +146,6 @@ module _ (outside : Outside) where
       after_calls (gen_calls n) (spread_run (files_after_all files (gen_calls n)) [] 1 in_total)
   command_answer files (threads workers defines each) = spread_run files defines workers (how each)
 
+  -- what the words answer
   unfoldable pub answer_of : List (List ℕ) → Files → Answer
   answer_of words files = after (outside.command words) (command_answer files)

@@ -37,10 +37,12 @@ wanted_file files name = if is_store_name name then files name else None
 abbrev pub source : Text → List ℕ → SourceFile
 source name text = record { name = name; text = text }
 
+-- the include that is wanted
 abbrev pub wanted : RegistryKind → Option Text
 wanted (MissingInclude name) = Some name
 wanted other = None
 
+-- once more, with the wanted file, if there is one
 abbrev pub with_wanted : (List SourceFile → Result Registry RegistryFault) → List SourceFile → RegistryFault → Text → Option (List ℕ) → Result Registry RegistryFault
 with_wanted again have f name None = Err f
 with_wanted again have f name (Some text) = again (have ++ (source name text ∷ []))
@@ -62,6 +64,7 @@ abbrev pub main_source : Option (List ℕ) → List SourceFile
 main_source None = []
 main_source (Some text) = source main_file text ∷ []
 
+-- the Registry of a store
 unfoldable pub registry_read : Files → Defines → Result Registry Refusal
 registry_read files defines = told_as registry_refusal (registry_with most_files files defines (main_source (files main_file)))
 
@@ -78,9 +81,11 @@ table_text config hooks (Some text) = told_as table_refusal (table_of text (name
 
 -- ---- the config, the plan, the layout and what a run begins with
 
+-- what the texts give
 abbrev pub Planned : Type 0
 Planned = Config × Plan
 
+-- the texts in order: Registry, namelist, table; then the plan and the restart rule
 unfoldable pub plan_read : List HookName → Files → Defines → Result Planned Refusal
 plan_read hooks files defines =
     registry_read files defines >>= λ registry.
@@ -90,10 +95,12 @@ plan_read hooks files defines =
     told_as plan_refusal (plan_of config hooks items) >>= λ plan.
     unless_fault (option_map (restart_refusal plan) (first_lost plan)) (config, plan)
 
+-- the halo rule, and then the layout
 abbrev pub layout_read : Config → Plan → ℕ → Result Layout Refusal
 layout_read config plan workers =
     unless_fault (option_map (halo_refusal plan) (first_uncovered plan)) plan >>= λ checked.
     told_as layout_refusal (layout_of config checked workers)
 
+-- the input and restart files
 abbrev pub inputs_read : Files → Plan → Result Initial Refusal
 inputs_read files plan = told_as input_refusal (input_of files plan)

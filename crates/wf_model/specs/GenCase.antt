@@ -46,6 +46,7 @@ case_table = lines (
     codes "  + a[1,0,0] + a[0,0,-1] + a[0,0,1]) div 8" ∷
     codes "phase p writes b margin 2 1 = a[-1,0,0] + a[1,0,0]" ∷ [])
 
+-- with one record
 abbrev pub one_record : Header → Header
 one_record h = record { version = h.version; numrecs = 1; dims = h.dims; atts = h.atts; vars = h.vars }
 
@@ -55,9 +56,11 @@ case_input a m x y =
     header_bytes (one_record (placed (file_header (case_plan x y 1 (case_field (codes "a") (codes "A")) []) 1 0 case_start 0)))
     ++ padded case_start ++ slab_bytes (case_values a m x y)
 
+-- a file by two calls
 abbrev pub place : Text → Text → List StoreCall
 place name text = create name ∷ append name text ∷ []
 
+-- the four files, in order
 unfoldable pub gen_calls : ℕ → List StoreCall
 gen_calls n =
     place (codes "Registry") case_registry

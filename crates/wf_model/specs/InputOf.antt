@@ -38,6 +38,7 @@ pub record Asked : Type 0 where
 abbrev pub asked : Text → ℕ → List ℕ → Asked
 asked name type shape = record { name = name; type = type; shape = shape }
 
+-- the bytes of a variable in record 0, or why there are none
 abbrev pub slab_read : List ℕ → Header → Asked → Result (List ℕ) SlabError
 slab_read bytes h a = slab_bytes_of bytes h (find (cdf.has_name a.name) h.vars) a.type a.shape 0
 
@@ -66,10 +67,12 @@ slabs_fault bytes slabs = first_fault (
     ∷ fault_if (list_any is_truncated slabs) (kind.Truncated (length bytes))
     ∷ [])
 
+-- the bytes, where there are some
 abbrev pub bytes_read : Result (List ℕ) SlabError → List ℕ
 bytes_read (Ok bs) = bs
 bytes_read (Err e) = []
 
+-- the time text
 abbrev pub times : Asked
 times = asked (codes "Times") 2 (19 ∷ [])
 
@@ -78,12 +81,15 @@ time_read bytes h = bytes_read (slab_read bytes h times)
 
 -- ---- levels
 
+-- the lengths of a level in files
 abbrev pub shape_of : Plan → ℕ → ℕ → List ℕ
 shape_of plan d f = (if (field_of plan f).z then nz plan f ∷ [] else []) ++ (file_y plan d f ∷ file_x plan d f ∷ [])
 
+-- the variable of a level
 abbrev pub level_asked : Plan → ℕ → ℕ → ℕ → Asked
 level_asked plan d stream f = asked (variable_name plan stream f) 4 (shape_of plan d f)
 
+-- a level that nothing gives
 abbrev pub zeros : Plan → ℕ → ℕ → List ℤ
 zeros plan d f = replicate (nz plan f * (ny plan d f * nx plan d f)) (pos 0)
 
@@ -91,6 +97,7 @@ zeros plan d f = replicate (nz plan f * (ny plan d f * nx plan d f)) (pos 0)
 abbrev pub own_points : Plan → ℕ → ℕ → List ℤ → List ℤ
 own_points plan d f values = listed (nz plan f) (ny plan d f) (nx plan d f) (grid_from (file_y plan d f) (file_x plan d f) values)
 
+-- the numbers of a level
 abbrev pub level_read : Plan → ℕ → ℕ → List ℕ → Header → ℕ → List ℤ
 level_read plan d stream bytes h f =
     own_points plan d f (ints (product (shape_of plan d f)) (bytes_read (slab_read bytes h (level_asked plan d stream f))))
@@ -100,18 +107,22 @@ abbrev pub grids_read : Plan → ℕ → ℕ → (ℕ → Bool) → List ℕ →
 grids_read plan d stream gives bytes h =
     map (λ f. if gives f then level_read plan d stream bytes h f else zeros plan d f) (levels_of plan)
 
+-- `Times` and the variables of the levels that a file gives
 abbrev pub all_slabs : Plan → ℕ → ℕ → (ℕ → Bool) → List ℕ → Header → List (Result (List ℕ) SlabError)
 all_slabs plan d stream gives bytes h = map (slab_read bytes h) (times ∷ map (level_asked plan d stream) (filter gives (levels_of plan)))
 
 -- ---- a domain
 
+-- what a domain begins with
 pub record DomainBegin : Type 0 where
   pub begin : Begin
   pub grids : List (List ℤ)
 
+-- the time text of a domain's start
 abbrev pub domain_stamp : Plan → ℕ → Text
 domain_stamp plan d = time_text plan.start (not_before (domain_of plan d).begins)
 
+-- a domain that doesn't resume
 abbrev pub fresh : Plan → ℕ → Begin
 fresh plan d = record { steps = 0; start_text = domain_stamp plan d; resumed = false }
 
@@ -128,6 +139,7 @@ header_read bytes = told_as kind.Cdf (header_at bytes)
 abbrev pub is_input : Plan → ℕ → Bool
 is_input plan f = (field_of plan f).input
 
+-- an input file: its header, its variables, its time
 abbrev pub input_read : Plan → ℕ → List ℕ → Result DomainBegin InputKind
 input_read plan d bytes =
     header_read bytes >>= λ h.
@@ -147,9 +159,11 @@ is_start_date a = (a.kind == 2) && is_stamp a.bytes
 abbrev pub is_steps : Att → Bool
 is_steps a = (a.kind == 4) && (a.count == 1) && nat_le (big_endian 0 a.bytes) 1000000000
 
+-- the attribute of the start
 abbrev pub start_date : Header → Att
 start_date h = att_named h (codes "START_DATE")
 
+-- the attribute of the steps
 abbrev pub steps_att : Header → Att
 steps_att h = att_named h (codes "STEPS")
 
@@ -161,9 +175,11 @@ abbrev pub leads_to : Plan → ℕ → Header → Bool
 leads_to plan d h =
     seconds_before (moment_of (start_date h).bytes) + big_endian 0 (steps_att h).bytes * (domain_of plan d).seconds == seconds_before (moment_of plan.start)
 
+-- a restart file gives the levels with `r`
 abbrev pub is_restored : Plan → ℕ → Bool
 is_restored plan f = (field_of plan f).restart
 
+-- a restart file: its header, its variables, its time, its attributes
 abbrev pub restart_read : Plan → ℕ → List ℕ → Result DomainBegin InputKind
 restart_read plan d bytes =
     header_read bytes >>= λ h.
@@ -193,18 +209,22 @@ must_resume plan d = plan.restart && ((d == 1) || int_lt (domain_of plan d).begi
 abbrev pub may_resume : Plan → ℕ → Bool
 may_resume plan d = plan.restart && ((d == 1) || int_le (domain_of plan d).begins (pos 0))
 
+-- a file that must be there
 abbrev pub from_file : (List ℕ → Result DomainBegin InputKind) → Text → Option (List ℕ) → Result DomainBegin InputFault
 from_file read file None = Err (fault_of file kind.Missing)
 from_file read file (Some bytes) = told_as (fault_of file) (read bytes)
 
+-- a domain that starts: from its input, or with 0
 abbrev pub started : Files → Plan → ℕ → Result DomainBegin InputFault
 started files plan d =
     if (domain_of plan d).from_file then from_file (input_read plan d) (input_file d) (files (input_file d)) else Ok (with_zeros plan d)
 
+-- a domain that resumes where its restart file is there
 abbrev pub resumed_if : Files → Plan → ℕ → Option (List ℕ) → Result DomainBegin InputFault
 resumed_if files plan d None = if must_resume plan d then Err (fault_of (restart_file plan d) kind.Missing) else started files plan d
 resumed_if files plan d (Some bytes) = told_as (fault_of (restart_file plan d)) (restart_read plan d bytes)
 
+-- what a domain begins with, or the first refusal
 abbrev pub domain_begin : Files → Plan → ℕ → Result DomainBegin InputFault
 domain_begin files plan d = if may_resume plan d then resumed_if files plan d (files (restart_file plan d)) else started files plan d
 

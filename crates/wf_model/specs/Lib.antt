@@ -39,10 +39,12 @@ pub mod ValueForms
 pub mod KeptLines
 pub mod Io
 pub mod Entries
+pub mod Groups
 pub mod Judging
 pub mod BuiltIns
 pub mod Registry
 pub mod Tokens
+pub mod TableNames
 pub mod ExprText
 pub mod Table
 pub mod NamelistTokens

@@ -1,0 +1,49 @@
+-- The worked cases of whole runs, computed.
+use Rattle.std.specs.Prelude.{◌≡◌, refl, Some, ℤ, pos, negsuc, ◌+ℤ◌}
+use Rattle.wf_model.specs.declared.expr.Expr.{roll-Expr, fold-roll-Expr}
+use Rattle.wf_model.specs.declared.expr.Args.TheOpen as e
+use Rattle.wf_model.specs.Numbers.{of_both, in_i64}
+use Rattle.wf_model.specs.Value.{Sight, Answers, number_of}
+use Rattle.wf_model.specs.Plans.{domain_of, field_of, item_of, begin_of, children}
+use Rattle.wf_model.specs.Grids.{listed, grid_from}
+use Rattle.wf_model.specs.Changes.{changed, spots, nothing, table_change, in_region}
+use Rattle.wf_model.specs.Script.{step_of, script_of}
+use Rattle.wf_model.specs.Outcome.{begin_grids, change_of, overflow_of, grids_after, grids_at}
+use Rattle.wf_cases.specs.RunCases.{num, read, neighbours, OldValues, BothPatchesOverflow, ExtendedPhase, PeriodicGrid, FarGrid}
+use Rattle.wf_cases.proofs.DemoCases.{demo_number}
+
+-- the number of a read
+read_number : (m : Answers) (s : Sight) (di : ℤ) → number_of m s (read di) ≡ in_i64 (s.read 0 di (pos 0) (pos 0))
+unfolding number_of
+read_number m s di = simp fold-roll-Expr refl
+
+-- the number of a read and one more
+raised_number : (m : Answers) (s : Sight) → number_of m s (roll-Expr (e.Add (read (pos 0)) (num 1))) ≡ of_both (λ x y. in_i64 (x +ℤ y)) (in_i64 (s.read 0 (pos 0) (pos 0) (pos 0))) (Some (pos 1))
+unfolding number_of
+raised_number m s = simp fold-roll-Expr refl
+
+-- the number of the sum of both neighbours
+neighbours_number : (m : Answers) (s : Sight) → number_of m s neighbours ≡
+    of_both (λ x y. in_i64 (x +ℤ y)) (in_i64 (s.read 0 (negsuc 0) (pos 0) (pos 0))) (in_i64 (s.read 0 (pos 1) (pos 0) (pos 0)))
+unfolding number_of
+neighbours_number m s = simp fold-roll-Expr refl
+
+pub old_values : OldValues
+unfolding grids_at begin_grids grids_after change_of changed table_change nothing grid_from domain_of field_of item_of begin_of script_of step_of children listed in_region
+old_values = record { grid = simp neighbours_number refl }
+
+pub both_patches_overflow : BothPatchesOverflow
+unfolding number_of begin_grids change_of changed table_change nothing grid_from domain_of field_of item_of begin_of overflow_of spots in_region
+both_patches_overflow = record { point = simp fold-roll-Expr refl }
+
+pub extended_phase : ExtendedPhase
+unfolding grids_at begin_grids grids_after change_of changed table_change nothing grid_from domain_of field_of item_of begin_of script_of step_of children listed in_region
+extended_phase = record { a = simp demo_number refl; b = simp (demo_number, neighbours_number) refl }
+
+pub periodic_grid : PeriodicGrid
+unfolding grids_at begin_grids grids_after change_of changed table_change nothing grid_from domain_of field_of item_of begin_of script_of step_of children listed in_region
+periodic_grid = record { a = simp read_number refl }
+
+pub far_grid : FarGrid
+unfolding grids_at begin_grids grids_after change_of changed table_change nothing grid_from domain_of field_of item_of begin_of script_of step_of children listed in_region
+far_grid = record { b = simp (read_number, raised_number) refl }

@@ -1,0 +1,59 @@
+//! Worked cases of runs: grids, bytes, overflows, events.
+
+ghost use Rattle.wf_cases.specs.DemoCases.{DemoOnePatch, DemoInItsOwnWords};
+ghost use Rattle.wf_cases.specs.RunCases.{OldValues, BothPatchesOverflow, ExtendedPhase, PeriodicGrid, FarGrid};
+ghost use Rattle.wf_cases.specs.EventCases.{EventsInOrder, HaloMemories};
+
+/// The demo on 3 by 3 points: its grid, its file byte for byte, and its summary.
+#[tactic(auto, using(crate::proofs::DemoCases::demo_one_patch))]
+pub fn demo_one_patch()
+    ensures { DemoOnePatch }
+{}
+
+/// The demo's words, summary and memories by its own short definitions.
+#[tactic(auto, using(crate::proofs::DemoCases::demo_in_its_own_words))]
+pub fn demo_in_its_own_words()
+    ensures { DemoInItsOwnWords }
+{}
+
+/// A phase reads the values before it.
+#[tactic(auto, using(crate::proofs::RunCases::old_values))]
+pub fn old_values()
+    ensures { OldValues }
+{}
+
+/// The least point that overflows is named.
+#[tactic(auto, using(crate::proofs::RunCases::both_patches_overflow))]
+pub fn both_patches_overflow()
+    ensures { BothPatchesOverflow }
+{}
+
+/// Two phases, of which the second reads what the first wrote.
+#[tactic(auto, using(crate::proofs::RunCases::extended_phase))]
+pub fn extended_phase()
+    ensures { ExtendedPhase }
+{}
+
+/// A row that wraps.
+#[tactic(auto, using(crate::proofs::RunCases::periodic_grid))]
+pub fn periodic_grid()
+    ensures { PeriodicGrid }
+{}
+
+/// Numbers from three points away.
+#[tactic(auto, using(crate::proofs::RunCases::far_grid))]
+pub fn far_grid()
+    ensures { FarGrid }
+{}
+
+/// What may come when.
+#[tactic(auto, using(crate::proofs::EventCases::events_in_order))]
+pub fn events_in_order()
+    ensures { EventsInOrder }
+{}
+
+/// The sums of three patches' memories after a halo.
+#[tactic(auto, using(crate::proofs::EventCases::halo_memories))]
+pub fn halo_memories()
+    ensures { HaloMemories }
+{}

@@ -1,0 +1,2 @@
+pub mod JoinedLines
+pub mod FactorRoom
