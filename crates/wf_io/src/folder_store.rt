@@ -11,12 +11,16 @@ use std::fs::{File, OpenFile, OpenOptions};
 use std::io;
 use std::io::{ErrorKind, Read, Seek, SeekFrom, Write};
 use std::marker::Model;
+use std::path::{Path, PathBuf};
 use std::rt::Files;
 
 /// The length of the longest file that is read, 16 GiB.
 const LONGEST_FILE: u64 = 17_179_869_184;
 
 /// The files of a folder. It tells nothing of what they hold.
+///
+/// An error of the system is a `Fault`, unless it is want of memory. A count of faults that stands
+/// at the greatest value of 64 bits stands still.
 #[derive(Drop)]
 pub struct DirStore<R> {
     rt: R,
@@ -32,33 +36,34 @@ impl<R> Model for DirStore<R> {
 
     ghost Value = { FolderState };
 
-    ghost view = { λ s. record { folder = string_bytes s.folder; faults = s.faults; failed = s.failed } };
+    ghost view = { λ s. record {
+      folder = string_bytes s.folder;
+      faults = s.faults;
+      failed = s.failed;
+    } };
 }
 
 impl<R: Files + Drop> DirStore<R> {
-    /// The store over a folder, which is there. A file of a name is reached at the folder's text,
-    /// a slash and the name.
+    /// The store over a folder, which is there. The path of a file is the folder's joined with the
+    /// file's name, as std joins paths.
     ///
     /// # Errors
     /// Want of memory.
     pub fn new(rt: R, alloc: Global, folder: &str) -> Result<DirStore<R>, AllocError>
         ensures { IfOk result (λ s. s ≡ record { folder = folder.now; faults = 0; failed = [] }) }
     {
-        match folder.to_string(alloc) {
-            Ok(folder) => Ok(DirStore {
-                rt,
-                alloc,
-                folder,
-                faults: 0,
-                failed: FileName::none(),
-            }),
-            Err(e) => Err(e),
-        }
+        let folder = folder.to_string(alloc)?;
+        Ok(DirStore {
+            rt,
+            alloc,
+            folder,
+            faults: 0,
+            failed: FileName::none(),
+        })
     }
 
-    fn path_of(&self, name: &str) -> io::Result<String> {
-        let folder = self.folder.as_str();
-        Ok(format!(in self.alloc; "{folder}/{name}")?)
+    fn path_of(&self, name: &str) -> io::Result<PathBuf> {
+        Ok(Path::new(self.folder.as_str()).join(self.alloc, name)?)
     }
 
     fn read_file(&self, alloc: Global, name: &str) -> io::Result<Option<Vec<u8>>> {

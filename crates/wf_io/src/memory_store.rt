@@ -51,7 +51,13 @@ impl Model for MemStore {
 
     ghost Value = { StoreState };
 
-    ghost view = { λ s. record { files = s.files.files.items; failing = s.failing.items; calls = s.calls; faults = s.faults; failed = s.failed } };
+    ghost view = { λ s. record {
+      files = s.files.files.items;
+      failing = s.failing.items;
+      calls = s.calls;
+      faults = s.faults;
+      failed = s.failed;
+    } };
 }
 
 impl MemStore {
@@ -74,7 +80,8 @@ impl MemStore {
     /// # Errors
     /// Want of memory, after which the store is as before.
     pub fn place(&mut self, name: &str, bytes: &[u8]) -> Result<(), AllocError>
-        ensures ok { OnOk result (files_of self.new.files ≡ with_file (files_of self.old.files) name.now bytes.now) }
+        ensures ok { OnOk result
+            (files_of self.new.files ≡ with_file (files_of self.old.files) name.now bytes.now) }
         ensures err { OnErr result (self.new ≡ self.old) }
         ensures rest { self.new ≡ record self.old { files = self.new.files } }
     {
@@ -104,7 +111,9 @@ impl MemStore {
     /// # Errors
     /// Want of memory, after which the store is as before.
     pub fn fail(&mut self, call: u64, kept: u64) -> Result<(), AllocError>
-        ensures ok { OnOk result (self.new ≡ record self.old { failing = self.old.failing ++ record { call = call; kept = kept } ∷ [] }) }
+        ensures ok { OnOk result (self.new ≡ record self.old {
+          failing = self.old.failing ++ record { call = call; kept = kept } ∷ [];
+        }) }
         ensures err { OnErr result (self.new ≡ self.old) }
     {
         self.failing.push(FailingCall { call, kept })?;
@@ -125,7 +134,8 @@ impl MemStore {
     fn fault(&mut self, name: &str) -> IoError
         requires { length name.now ≤ 128 }
         ensures value { result ≡ IoError.Fault }
-        ensures state { self.new ≡ record self.old { faults = one_more self.old.faults; failed = name.now } }
+        ensures state { self.new
+            ≡ record self.old { faults = one_more self.old.faults; failed = name.now } }
         ensures later { self.old.faults ≤ self.new.faults }
         ensures rose { Rose self.old.faults self.new.faults }
     {
@@ -146,7 +156,8 @@ impl Store for MemStore {
     fn read(&mut self, alloc: Global, name: &str) -> Result<Option<Vec<u8>>, IoError>
         requires { IsTrue (is_store_name name.now) }
         ensures same { files_of self.new.files ≡ files_of self.old.files }
-        ensures found { IfOk result (λ r. option_map (λ v. v.items) r ≡ files_of self.old.files name.now) }
+        ensures found { IfOk result
+            (λ r. option_map (λ v. v.items) r ≡ files_of self.old.files name.now) }
         ensures faults { Counted self.old.faults self.new.faults result }
         ensures failed { self.new.failed ≡ failed_name result name.now }
         ensures listed { IsErrOf result IoError.Fault ↔ IsSome (kept_of_next self.old) }
@@ -162,7 +173,8 @@ impl Store for MemStore {
     /// A listed call makes nothing.
     fn create(&mut self, name: &str) -> Result<(), IoError>
         requires { IsTrue (is_store_name name.now) }
-        ensures ok { OnOk result (files_of self.new.files ≡ with_file (files_of self.old.files) name.now []) }
+        ensures ok { OnOk result
+            (files_of self.new.files ≡ with_file (files_of self.old.files) name.now []) }
         ensures err { OnErr result (files_of self.new.files ≡ files_of self.old.files) }
         ensures faults { Counted self.old.faults self.new.faults result }
         ensures failed { self.new.failed ≡ failed_name result name.now }
@@ -170,19 +182,25 @@ impl Store for MemStore {
         ensures never { self.old.failing ≡ [] → result ≢ Err IoError.Fault }
         ensures numbered { IsNumbered self.old self.new result }
     {
-        match self.next_call() {
-            Some(_) => Err(self.fault(name)),
-            None => Ok(self.files.set(self.alloc, name, &[])?),
+        if self.next_call().is_some() {
+            return Err(self.fault(name));
         }
+        Ok(self.files.set(self.alloc, name, &[])?)
     }
 
     /// A listed call adds the bytes that it keeps.
     fn append(&mut self, name: &str, bytes: &[u8]) -> Result<(), IoError>
         requires name { IsTrue (is_store_name name.now) }
         requires there { IsSome (files_of self.old.files name.now) }
-        ensures ok { OnOk result (files_of self.new.files ≡ with_file (files_of self.old.files) name.now (bytes_at (files_of self.old.files) name.now ++ bytes.now)) }
-        ensures kept { IfSome (kept_of_next self.old) (λ kept. IsErrOf result IoError.Fault → files_of self.new.files ≡ with_file (files_of self.old.files) name.now (bytes_at (files_of self.old.files) name.now ++ take kept bytes.now)) }
-        ensures memory { IsErrOf result IoError.Memory → files_of self.new.files ≡ files_of self.old.files }
+        ensures ok { OnOk result (files_of self.new.files
+            ≡ with_file (files_of self.old.files) name.now
+            (bytes_at (files_of self.old.files) name.now ++ bytes.now)) }
+        ensures kept { IfSome (kept_of_next self.old) (λ kept. IsErrOf result IoError.Fault
+            → files_of self.new.files
+            ≡ with_file (files_of self.old.files) name.now
+            (bytes_at (files_of self.old.files) name.now ++ take kept bytes.now)) }
+        ensures memory { IsErrOf result IoError.Memory
+            → files_of self.new.files ≡ files_of self.old.files }
         ensures faults { Counted self.old.faults self.new.faults result }
         ensures failed { self.new.failed ≡ failed_name result name.now }
         ensures listed { IsErrOf result IoError.Fault → IsSome (kept_of_next self.old) }
@@ -204,8 +222,12 @@ impl Store for MemStore {
         requires name { IsTrue (is_store_name name.now) }
         requires there { IsSome (files_of self.old.files name.now) }
         requires within { at + length bytes.now ≤ length (bytes_at (files_of self.old.files) name.now) }
-        ensures ok { OnOk result (files_of self.new.files ≡ with_file (files_of self.old.files) name.now (patched (bytes_at (files_of self.old.files) name.now) at bytes.now)) }
-        ensures kept { IfSome (kept_of_next self.old) (λ kept. files_of self.new.files ≡ with_file (files_of self.old.files) name.now (patched (bytes_at (files_of self.old.files) name.now) at (take kept bytes.now))) }
+        ensures ok { OnOk result (files_of self.new.files
+            ≡ with_file (files_of self.old.files) name.now
+            (patched (bytes_at (files_of self.old.files) name.now) at bytes.now)) }
+        ensures kept { IfSome (kept_of_next self.old) (λ kept. files_of self.new.files
+            ≡ with_file (files_of self.old.files) name.now
+            (patched (bytes_at (files_of self.old.files) name.now) at (take kept bytes.now))) }
         ensures faults { Counted self.old.faults self.new.faults result }
         ensures failed { self.new.failed ≡ failed_name result name.now }
         ensures listed { IsErrOf result IoError.Fault ↔ IsSome (kept_of_next self.old) }

@@ -51,7 +51,8 @@ impl StoredFile {
     }
 
     fn append(&mut self, bytes: &[u8]) -> Result<(), AllocError>
-        ensures ok { OnOk result (self.new ≡ record self.old { bytes = self.old.bytes ++ bytes.now }) }
+        ensures ok { OnOk result
+            (self.new ≡ record self.old { bytes = self.old.bytes ++ bytes.now }) }
         ensures err { OnErr result (self.new ≡ self.old) }
     {
         self.bytes.extend_from_slice(bytes)
@@ -82,7 +83,8 @@ impl NamedFiles {
 
     // The place of the first file of that name.
     fn place_of(&self, name: &str) -> Option<usize>
-        ensures { MatchOption result (files_of self.now.files.items name.now ≡ None) (λ p. IsPlace self.now.files.items name.now p) }
+        ensures { MatchOption result (files_of self.now.files.items name.now ≡ None)
+            (IsPlace self.now.files.items name.now) }
     {
         for (i, file) in self.files.iter().enumerate() {
             if file.has_name(name) {
@@ -104,7 +106,8 @@ impl NamedFiles {
 
     // A copy of the bytes of that name.
     pub(crate) fn read(&self, alloc: Global, name: &str) -> Result<Option<Vec<u8>>, AllocError>
-        ensures { IfOk result (λ r. option_map (λ v. v.items) r ≡ files_of self.now.files.items name.now) }
+        ensures { IfOk result
+            (λ r. option_map (λ v. v.items) r ≡ files_of self.now.files.items name.now) }
     {
         match self.get(name) {
             Some(bytes) => Ok(Some(Vec::from_slice(alloc, bytes)?)),
@@ -114,7 +117,8 @@ impl NamedFiles {
 
     // Gives a name these bytes, whether it is there or not.
     pub(crate) fn set(&mut self, alloc: Global, name: &str, bytes: &[u8]) -> Result<(), AllocError>
-        ensures ok { OnOk result (files_of self.new.files.items ≡ with_file (files_of self.old.files.items) name.now bytes.now) }
+        ensures ok { OnOk result (files_of self.new.files.items
+            ≡ with_file (files_of self.old.files.items) name.now bytes.now) }
         ensures err { OnErr result (self.new.files.items ≡ self.old.files.items) }
     {
         let copy = Vec::from_slice(alloc, bytes)?;
@@ -128,8 +132,11 @@ impl NamedFiles {
     // Adds the bytes at the end of the file of that name.
     pub(crate) fn append(&mut self, name: &str, bytes: &[u8]) -> Result<(), AllocError>
         requires { IsSome (files_of self.old.files.items name.now) }
-        ensures ok { OnOk result (files_of self.new.files.items ≡ with_file (files_of self.old.files.items) name.now (bytes_at (files_of self.old.files.items) name.now ++ bytes.now)) }
-        ensures err { OnErr result (files_of self.new.files.items ≡ files_of self.old.files.items) }
+        ensures ok { OnOk result (files_of self.new.files.items
+            ≡ with_file (files_of self.old.files.items) name.now
+            (bytes_at (files_of self.old.files.items) name.now ++ bytes.now)) }
+        ensures err { OnErr result
+            (files_of self.new.files.items ≡ files_of self.old.files.items) }
     {
         match self.place_of(name) {
             Some(at) => self.files[at].append(bytes),
@@ -140,8 +147,11 @@ impl NamedFiles {
     // Writes the bytes over those of the file of that name from place `at` on.
     pub(crate) fn write_at(&mut self, name: &str, at: usize, bytes: &[u8])
         requires there { IsSome (files_of self.old.files.items name.now) }
-        requires within { at + length bytes.now ≤ length (bytes_at (files_of self.old.files.items) name.now) }
-        ensures { files_of self.new.files.items ≡ with_file (files_of self.old.files.items) name.now (patched (bytes_at (files_of self.old.files.items) name.now) at bytes.now) }
+        requires within { at + length bytes.now
+            ≤ length (bytes_at (files_of self.old.files.items) name.now) }
+        ensures { files_of self.new.files.items
+            ≡ with_file (files_of self.old.files.items) name.now
+            (patched (bytes_at (files_of self.old.files.items) name.now) at bytes.now) }
     {
         match self.place_of(name) {
             Some(place) => self.files[place].write_at(at, bytes),

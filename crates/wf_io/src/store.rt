@@ -58,7 +58,8 @@ pub trait Store {
     fn read(&mut self, alloc: Global, name: &str) -> Result<Option<Vec<u8>>, IoError>
         requires { IsTrue (is_store_name name.now) }
         ensures same { Told (files self.old) (files self.new) (λ m n. n ≡ m) }
-        ensures found { IfOk result (λ r. (m : Files) → files self.old ≡ Some m → option_map (λ v. v.items) r ≡ m name.now) }
+        ensures found { IfOk result (λ r. (m : Files) → files self.old ≡ Some m
+            → option_map (λ v. v.items) r ≡ m name.now) }
         ensures faults { Counted (faults self.old) (faults self.new) result }
         ensures failed { failed self.new ≡ failed_name result name.now };
 
@@ -67,8 +68,10 @@ pub trait Store {
     /// After an error the name holds what it held, or no bytes.
     fn create(&mut self, name: &str) -> Result<(), IoError>
         requires { IsTrue (is_store_name name.now) }
-        ensures ok { OnOk result (Told (files self.old) (files self.new) (λ m n. n ≡ with_file m name.now [])) }
-        ensures err { OnErr result (Told (files self.old) (files self.new) (λ m n. (n ≡ m) ⊎ (n ≡ with_file m name.now []))) }
+        ensures ok { OnOk result (Told (files self.old) (files self.new)
+            (λ m n. n ≡ with_file m name.now [])) }
+        ensures err { OnErr result (Told (files self.old) (files self.new)
+            (λ m n. (n ≡ m) ⊎ (n ≡ with_file m name.now []))) }
         ensures faults { Counted (faults self.old) (faults self.new) result }
         ensures failed { failed self.new ≡ failed_name result name.now };
 
@@ -78,8 +81,11 @@ pub trait Store {
     fn append(&mut self, name: &str, bytes: &[u8]) -> Result<(), IoError>
         requires name { IsTrue (is_store_name name.now) }
         requires there { (m : Files) → files self.old ≡ Some m → IsSome (m name.now) }
-        ensures ok { OnOk result (Told (files self.old) (files self.new) (λ m n. n ≡ with_file m name.now (bytes_at m name.now ++ bytes.now))) }
-        ensures err { OnErr result (Told (files self.old) (files self.new) (λ m n. (rest : List ℕ) × (n ≡ with_file m name.now (bytes_at m name.now ++ rest)))) }
+        ensures ok { OnOk result (Told (files self.old) (files self.new)
+            (λ m n. n ≡ with_file m name.now (bytes_at m name.now ++ bytes.now))) }
+        ensures err { OnErr result (Told (files self.old) (files self.new)
+            (λ m n. (rest : List ℕ)
+            × (n ≡ with_file m name.now (bytes_at m name.now ++ rest)))) }
         ensures faults { Counted (faults self.old) (faults self.new) result }
         ensures failed { failed self.new ≡ failed_name result name.now };
 
@@ -89,9 +95,13 @@ pub trait Store {
     fn write_at(&mut self, name: &str, at: u64, bytes: &[u8]) -> Result<(), IoError>
         requires name { IsTrue (is_store_name name.now) }
         requires there { (m : Files) → files self.old ≡ Some m → IsSome (m name.now) }
-        requires within { (m : Files) → files self.old ≡ Some m → at + length bytes.now ≤ length (bytes_at m name.now) }
-        ensures ok { OnOk result (Told (files self.old) (files self.new) (λ m n. n ≡ with_file m name.now (patched (bytes_at m name.now) at bytes.now))) }
-        ensures err { OnErr result (Told (files self.old) (files self.new) (λ m n. (other : List ℕ) × (length other ≡ length bytes.now) × (n ≡ with_file m name.now (patched (bytes_at m name.now) at other)))) }
+        requires within { (m : Files) → files self.old ≡ Some m
+            → at + length bytes.now ≤ length (bytes_at m name.now) }
+        ensures ok { OnOk result (Told (files self.old) (files self.new)
+            (λ m n. n ≡ with_file m name.now (patched (bytes_at m name.now) at bytes.now))) }
+        ensures err { OnErr result (Told (files self.old) (files self.new)
+            (λ m n. (other : List ℕ) × (length other ≡ length bytes.now)
+            × (n ≡ with_file m name.now (patched (bytes_at m name.now) at other)))) }
         ensures faults { Counted (faults self.old) (faults self.new) result }
         ensures failed { failed self.new ≡ failed_name result name.now };
 }
