@@ -1,5 +1,5 @@
 -- What a store in memory holds.
-use Rattle.std.specs.Prelude.{◌≡◌, ◌==◌, ℕ, ◌<◌, true, false, length, get_or, List, [], ◌∷◌, Option, Some, None, Result, if◌then◌else◌, find, option_map}
+use Rattle.std.specs.Prelude.{◌≡◌, ◌==◌, ℕ, ◌<◌, true, false, length, slice_index_or, List, [], ◌∷◌, Option, Some, None, Result, if◌then◌else◌, find, option_map}
 use Rattle.std.specs.Str.{bytes_eq}
 use Rattle.wf_io.specs.Files.{Files}
 use Rattle.wf_io.specs.Counts.{one_more, faults_after}
@@ -27,12 +27,12 @@ files_of (f ∷ fs) q = if bytes_eq q f.name then Some f.bytes else files_of fs 
 
 -- no file before place p has the name
 abbrev pub NoneBefore : List FileState → List ℕ → ℕ → Type 0
-NoneBefore fs name p = (k : ℕ) (d : FileState) → k < p → bytes_eq name (get_or fs k d).name ≡ false
+NoneBefore fs name p = (k : ℕ) (d : FileState) → k < p → bytes_eq name (slice_index_or fs k d).name ≡ false
 
 -- place p has the first file of that name
 pub record IsPlace (fs : List FileState) (name : List ℕ) (p : ℕ) : Type 0 where
   pub within : p < length fs
-  pub here : (d : FileState) → bytes_eq name (get_or fs p d).name ≡ true
+  pub here : (d : FileState) → bytes_eq name (slice_index_or fs p d).name ≡ true
   pub first : NoneBefore fs name p
 
 -- how many bytes the first entry for this call keeps, if the call is listed
