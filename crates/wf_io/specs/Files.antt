@@ -1,11 +1,12 @@
 -- The files of a store: what each name holds.
-use Rattle.std.specs.Prelude.{◌≡◌, ◌⊎◌, ℕ, ◌+◌, ◌-◌, ◌^◌, ◌<◌, ◌≤◌, ◌==◌, Bool, ◌&&◌, ◌||◌, nat_lt, nat_le, List, [], ◌++◌, length, take, drop, Option, Some, None, Result, Ok, Err, unwrap_or, if◌then◌else◌, IsErrOf}
+use Rattle.std.specs.Prelude.{ℕ, ◌+◌, ◌-◌, ◌^◌, ◌<◌, ◌≤◌, ◌==◌, Bool, ◌&&◌, ◌||◌, nat_lt, nat_le, List, [], ◌++◌, length, take, drop, Option, Some, None, Result, Ok, Err, unwrap_or, if◌then◌else◌, IsErrOf}
 use Rattle.std.specs.Str.{bytes_eq}
 use Rattle.std.specs.List.{list_all}
 use Rattle.std.specs.Char.{is_ascii_alphanumeric}
 use Rattle.wf_io.specs.declared.store.IoError.{IoError}
 use Rattle.wf_io.specs.declared.store.IoError.TheVariants.{Fault, Memory}
 
+-- the bytes that each name has, if it is a file's
 abbrev pub Files : Type 0
 Files = List ℕ → Option (List ℕ)
 
@@ -13,7 +14,7 @@ Files = List ℕ → Option (List ℕ)
 abbrev pub with_file : Files → List ℕ → List ℕ → Files
 with_file files name bytes = λ q. if bytes_eq q name then Some bytes else files q
 
--- the bytes of a name, and none where there is no such name
+-- the bytes of a name, and none where there is no such file
 abbrev pub bytes_at : Files → List ℕ → List ℕ
 bytes_at files name = unwrap_or (files name) []
 
@@ -26,23 +27,23 @@ abbrev pub is_store_name : List ℕ → Bool
 is_store_name word = nat_lt 0 (length word) && nat_le (length word) 128
     && list_all (λ b. (is_ascii_alphanumeric b || (b == 95)) || (b == 45) || (b == 46) || (b == 58)) word
 
--- what is told stays told, and what isn't told isn't told; and where it is told, it changes so
+-- what is told stays told, and what is not told is never told; and where it is told, it changes so
 abbrev pub Told : {X : Type 0} → Option X → Option X → (X → X → Type 0) → Type 0
 Told None None P = Unit {0}
 Told None (Some n) P = ⊥
 Told (Some m) None P = ⊥
 Told (Some m) (Some n) P = P m n
 
--- a count of faults that does not fall, and that rises where the call answers Fault; one that stands at
--- the greatest value of 64 bits counts as risen
+-- a count of faults rose; one that stands at the greatest value of 64 bits counts as risen
 abbrev pub Rose : ℕ → ℕ → Type 0
 Rose before now = now < 2 ^ 64 - 1 → before < now
 
+-- a count of faults did not fall, and it rose where the call answered `Fault`
 pub record Counted {X : Type 0} (before now : ℕ) (result : Result X IoError) : Type 0 where
   pub later : before ≤ now
   pub rose : IsErrOf result Fault → Rose before now
 
--- the name of a call that answered Fault, and else no text
+-- the name of a call that answered `Fault`, and else no text
 abbrev pub failed_name : {X : Type 0} → Result X IoError → List ℕ → List ℕ
 failed_name (Ok x) name = []
 failed_name (Err Fault) name = name
