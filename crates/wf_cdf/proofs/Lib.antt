@@ -1,1 +1,3 @@
 pub mod CappedSums
+pub mod Sizes
+pub mod Lengths

@@ -3,13 +3,13 @@
 
 mod header;
 mod padding;
-//mod place;
+mod place;
 mod size;
 mod slab;
 mod too_long;
 
 pub use header::write_header;
-//pub use place::place_vars;
+pub use place::place_vars;
 pub use slab::{write_chars, write_slab};
 pub use too_long::TooLong;
 
