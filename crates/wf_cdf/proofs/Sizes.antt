@@ -1,11 +1,11 @@
 -- The sizes of variables, one more at a time.
-use Rattle.std.proofs.Common.{◌≡◌, ◌⊎◌, ℕ, suc, zero, ◌+◌, ◌-◌, ◌*◌, ◌/◌, ◌%◌, ◌^◌, ◌<◌, ◌≤◌, min, max, Bool, true, false, cond, not, ltb, eqb, List, [], ◌∷◌, ◌++◌, length, take, get_or, map, arith, refl, sym, ap, ◌∙◌}
+use Rattle.std.proofs.Common.{◌≡◌, ◌⊎◌, ℕ, suc, zero, ◌+◌, ◌-◌, ◌*◌, ◌/◌, ◌%◌, ◌^◌, ◌<◌, ◌≤◌, min, max, Bool, true, false, cond, not, ltb, eqb, List, [], ◌∷◌, ◌++◌, length, take, drop, get_or, map, arith, refl, sym, ap, ◌∙◌}
 use Rattle.std.specs.List.{fold, filter, sum_by}
-use Rattle.std.proofs.lemmas.List.{get_or_default}
+use Rattle.std.proofs.lemmas.List.{get_or_default, take-append-drop}
 use Rattle.std.proofs.lemmas.Bool.{ne_eqb}
 use Rattle.std.proofs.lemmas.List.Sums.{fold_more, sum_by-append}
 use Rattle.std.proofs.lemmas.List.Folds.{fold-map}
-use Rattle.std.proofs.lemmas.List.Elements.{filter_more}
+use Rattle.std.proofs.lemmas.List.Elements.{filter_more, filter-append}
 use Rattle.std.proofs.lemmas.List.Filters.{length-filter_more}
 use Rattle.wf_model.specs.declared.header.Header.{Header}
 use Rattle.wf_model.specs.declared.header.Dim.{Dim}
@@ -45,25 +45,43 @@ sum_of_passing_more p f xs i d h =
         (elim (p (get_or xs i d)) as (λ b. sum_by f (cond b (get_or xs i d ∷ []) []) ≡ cond b (f (get_or xs i d)) 0) [ true ↦ omega arith | false ↦ refl ])
 
 
+-- the same where it fails the test
+pub sum_of_passing_kept : {X : Type 0} (p : X → Bool) (f : X → ℕ) (xs : List X) (i : ℕ) (x : X) → i < length xs → x ≡ get_or xs i x →
+    p x ≡ false → sum_by f (filter p (take (i + 1) xs)) ≡ sum_by f (filter p (take i xs))
+sum_of_passing_kept p f xs i x h read fails =
+    let more : sum_by f (filter p (take (i + 1) xs)) ≡ sum_by f (filter p (take i xs)) + cond (p (get_or xs i x)) (f (get_or xs i x)) 0 = sum_of_passing_more p f xs i x h in
+    let none : cond (p (get_or xs i x)) (f (get_or xs i x)) 0 ≡ 0 = ap (λ y. cond (p y) (f y) 0) (sym read) ∙ ap (λ b. cond b (f x) 0) fails in
+    omega arith
+
+-- and where it passes
+pub sum_of_passing_added : {X : Type 0} (p : X → Bool) (f : X → ℕ) (xs : List X) (i : ℕ) (x : X) → i < length xs → x ≡ get_or xs i x →
+    p x ≡ true → sum_by f (filter p (take (i + 1) xs)) ≡ sum_by f (filter p (take i xs)) + f x
+sum_of_passing_added p f xs i x h read passes =
+    let more : sum_by f (filter p (take (i + 1) xs)) ≡ sum_by f (filter p (take i xs)) + cond (p (get_or xs i x)) (f (get_or xs i x)) 0 = sum_of_passing_more p f xs i x h in
+    let one : cond (p (get_or xs i x)) (f (get_or xs i x)) 0 ≡ f x = ap (λ y. cond (p y) (f y) 0) (sym read) ∙ ap (λ b. cond b (f x) 0) passes in
+    omega arith
+
+-- the first of a list have no more than all
+pub sum_of_passing_take : {X : Type 0} (p : X → Bool) (f : X → ℕ) (xs : List X) (i : ℕ) →
+    sum_by f (filter p (take i xs)) ≤ sum_by f (filter p xs)
+sum_of_passing_take p f xs i =
+    let parts : sum_by f (filter p (take i xs ++ drop i xs)) ≡ sum_by f (filter p (take i xs)) + sum_by f (filter p (drop i xs)) =
+      ap (sum_by f) (filter-append p (take i xs) (drop i xs)) ∙ sum_by-append f (filter p (take i xs)) (filter p (drop i xs)) in
+    let whole : sum_by f (filter p (take i xs ++ drop i xs)) ≡ sum_by f (filter p xs) = ap (λ ys. sum_by f (filter p ys)) (take-append-drop i xs) in
+    omega arith
+
 -- a saturating sum stays where one more fails the test
 pub sum_kept : {X : Type 0} (p : X → Bool) (f : X → ℕ) (xs : List X) (i total : ℕ) (x : X) → i < length xs → x ≡ get_or xs i x →
     p x ≡ false → total ≡ capped (sum_by f (filter p (take i xs))) → total ≡ capped (sum_by f (filter p (take (i + 1) xs)))
-sum_kept p f xs i total x h read fails before =
-    let more : sum_by f (filter p (take (i + 1) xs)) ≡ sum_by f (filter p (take i xs)) + cond (p (get_or xs i x)) (f (get_or xs i x)) 0 = sum_of_passing_more p f xs i x h in
-    let none : cond (p (get_or xs i x)) (f (get_or xs i x)) 0 ≡ 0 = ap (λ y. cond (p y) (f y) 0) (sym read) ∙ ap (λ b. cond b (f x) 0) fails in
-    let same : sum_by f (filter p (take (i + 1) xs)) ≡ sum_by f (filter p (take i xs)) = omega arith in
-    before ∙ ap capped (sym same)
+sum_kept p f xs i total x h read fails before = before ∙ ap capped (sym (sum_of_passing_kept p f xs i x h read fails))
 
 -- and has its number where one more passes
 pub sum_added : {X : Type 0} (p : X → Bool) (f : X → ℕ) (xs : List X) (i total n : ℕ) (x : X) → i < length xs → x ≡ get_or xs i x →
     p x ≡ true → n ≡ capped (f x) → total ≡ capped (sum_by f (filter p (take i xs))) →
     min (total + n) (2 ^ 128 - 1) ≡ capped (sum_by f (filter p (take (i + 1) xs)))
 sum_added p f xs i total n x h read passes size before =
-    let more : sum_by f (filter p (take (i + 1) xs)) ≡ sum_by f (filter p (take i xs)) + cond (p (get_or xs i x)) (f (get_or xs i x)) 0 = sum_of_passing_more p f xs i x h in
-    let one : cond (p (get_or xs i x)) (f (get_or xs i x)) 0 ≡ f x = ap (λ y. cond (p y) (f y) 0) (sym read) ∙ ap (λ b. cond b (f x) 0) passes in
-    let same : sum_by f (filter p (take (i + 1) xs)) ≡ sum_by f (filter p (take i xs)) + f x = omega arith in
     ap (λ a. min (a + n) (2 ^ 128 - 1)) before ∙ ap (λ a. min (capped (sum_by f (filter p (take i xs))) + a) (2 ^ 128 - 1)) size
-    ∙ capped_add (sum_by f (filter p (take i xs))) (f x) ∙ ap capped (sym same)
+    ∙ capped_add (sum_by f (filter p (take i xs))) (f x) ∙ ap capped (sym (sum_of_passing_added p f xs i x h read passes))
 
 -- how many pass, where one more passes or fails
 pub count_more : {X : Type 0} (p : X → Bool) (xs : List X) (i : ℕ) (x : X) (b : Bool) → i < length xs → x ≡ get_or xs i x →
@@ -125,3 +143,10 @@ capped_file_size h records before fixed one b f o =
     ∙ ap (λ n. min (capped (length (header_bytes h) + fixed_size h) + n) (2 ^ 128 - 1)) (capped_mul_left (max records 1) (record_size h))
     ∙ capped_add (length (header_bytes h) + fixed_size h) (max records 1 * record_size h)
     ∙ ap (λ n. capped (length (header_bytes h) + fixed_size h + n * record_size h)) (let e : max records 1 ≡ max 1 records = omega arith in e)
+
+-- one record of all variables has at most three bytes of padding less
+pub padded_slabs_le : (dims : List Dim) (vs : List Var) → sum_by (padded_size dims) vs ≤ size_of_slabs dims vs + 3
+padded_slabs_le dims [] = omega arith
+padded_slabs_le dims (v ∷ []) =
+    elim (is_narrow v) as (λ b. 0 + padded_size dims v ≤ cond b (slab_size dims v) (padded_size dims v) + 3) [ true ↦ omega arith | false ↦ omega arith ]
+padded_slabs_le dims (v ∷ w ∷ vs) = omega arith

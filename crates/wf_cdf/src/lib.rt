@@ -2,6 +2,7 @@
 #![tactic(auto)]
 
 mod header;
+mod length;
 mod padding;
 mod place;
 mod size;

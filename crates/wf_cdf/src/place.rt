@@ -1,10 +1,10 @@
 ghost use Rattle.std.specs.Prelude.{◌≡◌, ◌+◌, ◌-◌, ◌^◌, ◌<◌, ◌↔◌, All, length, min, filter, sum_by, not, OnOk, OnErr, IfOk, IfErr, IsErr};
 ghost use Rattle.wf_model.specs.Bytes.{header_bytes};
-ghost use Rattle.wf_model.specs.Sizes.{is_record_var, padded_size, file_size, most_bytes};
+ghost use Rattle.wf_model.specs.Sizes.{is_record_var, padded_size, fixed_size, record_vars, file_size, most_bytes};
 ghost use Rattle.wf_model.specs.Headers.{vsize_of, placed_var, placed_from, placed};
 ghost use Rattle.wf_model.specs.SoundHeader.{IsSoundVar, IsSoundHeader, BeginsFit};
 
-use crate::size::{begins_with_record, data_sizes, file_size, header_length, padded_size};
+use crate::size::{begins_with_record, file_size, file_sizes, padded_size};
 use crate::too_long::TooLong;
 use wf_model::{Dim, Header, Var};
 
@@ -31,6 +31,16 @@ fn place_var(var: &mut Var, size: u64, begin: u64)
     var.begin = begin;
 }
 
+/// The padded size of a variable that has fewer than 2 to the 64 bytes.
+#[tactic(auto, using(crate::proofs::CappedSums::capped_small))]
+fn small_size(dims: &[Dim], var: &Var) -> u64
+    requires sound { IsSoundVar dims.now var.now }
+    requires small { padded_size dims.now var.now < 2 ^ 64 }
+    ensures { result ≡ padded_size dims.now var.now }
+{
+    padded_size(dims, var) as u64
+}
+
 /// Places fixed variables from `fixed` on, and record variables from `moving` on, each of the two in order.
 fn place_each(dims: &[Dim], vars: &mut [Var], mut fixed: u64, mut moving: u64)
     requires each { All (IsSoundVar dims.now) vars.old }
@@ -39,7 +49,7 @@ fn place_each(dims: &[Dim], vars: &mut [Var], mut fixed: u64, mut moving: u64)
     ensures { vars.new ≡ placed_from dims.now fixed moving vars.old }
 {
     for var in vars.iter_mut() {
-        let size = padded_size(dims, var) as u64;
+        let size = small_size(dims, var);
         if begins_with_record(dims, var.dims.as_slice()) {
             place_var(var, size, moving);
             moving += size;
@@ -48,6 +58,17 @@ fn place_each(dims: &[Dim], vars: &mut [Var], mut fixed: u64, mut moving: u64)
             fixed += size;
         }
     }
+}
+
+/// Places the variables of a header whose data end below 2 to the 63.
+fn place_all(header: &mut Header, fixed: u64, moving: u64)
+    requires sound { IsSoundHeader header.old }
+    requires fixed { fixed ≡ length (header_bytes header.old) }
+    requires moving { moving ≡ fixed + fixed_size header.old }
+    requires end { moving + sum_by (padded_size header.old.dims) (record_vars header.old) < 2 ^ 63 }
+    ensures { header.new ≡ placed header.old }
+{
+    place_each(header.dims.as_slice(), header.vars.as_mut_slice(), fixed, moving);
 }
 
 /// Sets vsize and begin of each variable of a header, and gives the header's length in bytes: data begins there.
@@ -67,13 +88,12 @@ pub fn place_vars(header: &mut Header, records: u32) -> Result<u64, TooLong>
     ensures bytes { IfErr result (λ e. e.bytes ≡ min (file_size header.old records) (2 ^ 128 - 1)) }
     ensures unchanged { OnErr result (header.new ≡ header.old) }
 {
-    let bytes = file_size(header, records);
+    let sizes = file_sizes(header);
+    let bytes = file_size(header, &sizes, records);
     if bytes > most_bytes(header.version) {
         return Err(TooLong { bytes });
     }
-    let fixed = header_length(header) as u64;
-    let sizes = data_sizes(header.dims.as_slice(), header.vars.as_slice());
-    let moving = fixed + sizes.fixed as u64;
-    place_each(header.dims.as_slice(), header.vars.as_mut_slice(), fixed, moving);
+    let fixed = sizes.header as u64;
+    place_all(header, fixed, fixed + sizes.fixed as u64);
     Ok(fixed)
 }
