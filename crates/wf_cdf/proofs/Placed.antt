@@ -3,7 +3,8 @@ use Rattle.std.proofs.Common.{◌≡◌, ◌⊎◌, ℕ, suc, ◌+◌, ◌-◌, 
 use Rattle.std.proofs.lemmas.List.{length-append, length-take, append_assoc, take_more}
 use Rattle.std.proofs.Math.Seq.{drop-cons, get_or-append_seam, set-append_seam}
 use Rattle.std.specs.List.{filter, sum_by, flat_map, All}
-use Rattle.std.proofs.lemmas.List.Sums.{sum_by_from}
+use Rattle.std.proofs.lemmas.List.Sums.{sum_by_from, get_or-le-sum_by}
+use Rattle.std.proofs.lemmas.List.Filters.{sum_by-filter_both}
 use Rattle.std.proofs.lemmas.List.Elements.{All-cons, All-tail, All-nil}
 use Rattle.wf_model.specs.declared.header.Header.{Header}
 use Rattle.wf_model.specs.declared.header.Dim.{Dim}
@@ -78,7 +79,7 @@ placed_push dims fixed moving (w ∷ vs) v =
       (moving_of_cons dims w vs) (placed_push dims fixed (moving + padded_size dims w) vs v) (placed_push dims (fixed + padded_size dims w) moving vs v)
 
 -- as many as before
-length_placed_from : (dims : List Dim) (fixed moving : ℕ) (vs : List Var) → length (placed_from dims fixed moving vs) ≡ length vs
+pub length_placed_from : (dims : List Dim) (fixed moving : ℕ) (vs : List Var) → length (placed_from dims fixed moving vs) ≡ length vs
 length_placed_from dims fixed moving [] = refl
 length_placed_from dims fixed moving (v ∷ vs) =
     elim (is_record_var dims v) as (λ b. length (cond b (placed_var dims moving v ∷ placed_from dims fixed (moving + padded_size dims v) vs)
@@ -226,7 +227,9 @@ BeginsFit_placed h small = λ e.
 -- no variable has more than all of them
 pub padded_size_le : (dims : List Dim) (vs : List Var) (i : ℕ) (v : Var) → i < length vs → v ≡ get_or vs i v →
     padded_size dims v ≤ fixed_of dims vs + moving_of dims vs
-padded_size_le dims vs i v h read = ?
+padded_size_le dims vs i v h read =
+    let same : padded_size dims v ≡ padded_size dims (get_or vs i v) = ap (padded_size dims) read in
+    omega (arith, get_or-le-sum_by (padded_size dims) vs i v h, sum_by-filter_both (is_record_var dims) (λ x. not (is_record_var dims x)) (λ x. refl) (padded_size dims) vs)
 
 -- the place behind a record variable is within the data
 pub moving_fits : (dims : List Dim) (moving : ℕ) (vs : List Var) (i : ℕ) (v : Var) → i < length vs → v ≡ get_or vs i v →
