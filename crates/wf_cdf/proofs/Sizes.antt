@@ -11,9 +11,14 @@ use Rattle.wf_model.specs.declared.header.Header.{Header}
 use Rattle.wf_model.specs.declared.header.Dim.{Dim}
 use Rattle.wf_model.specs.declared.header.Var.{Var}
 use Rattle.wf_model.specs.Bytes.{header_bytes}
-use Rattle.wf_model.specs.Sizes.{type_size, dim_of, lengths, product, slab_dims, slab_size, padded_size, rounded, is_narrow, size_of_slabs, record_vars, fixed_size, record_size, file_size}
+use Rattle.wf_model.specs.Sizes.{type_size, dim_of, rest_of, lengths, product, slab_dims, slab_size, padded_size, rounded, is_narrow, size_of_slabs, record_vars, fixed_size, record_size, file_size}
 use Rattle.wf_cdf.specs.Capped.{capped}
 use Rattle.wf_cdf.proofs.CappedSums.{capped_mul, capped_mul_left, capped_add}
+
+-- the list after its first item
+pub rest_of_drop : (xs : List ℕ) → rest_of xs ≡ drop 1 xs
+rest_of_drop [] = refl
+rest_of_drop (x ∷ xs) = refl
 
 -- a product of lengths as one fold
 product_fold : (dims : List Dim) (ns : List ℕ) → product (lengths dims ns) ≡ fold (λ a n. a * (dim_of dims n).len) 1 ns

@@ -2,6 +2,7 @@ ghost use Rattle.std.specs.Prelude.{◌≡◌, ◌+◌, ◌*◌, ◌^◌, ◌<�
 ghost use Rattle.wf_model.specs.Bytes.{four_bytes, name_bytes, dim_bytes, att_bytes, begin_bytes, var_bytes, list_bytes, header_bytes};
 ghost use Rattle.wf_model.specs.SoundHeader.{IsCount, IsSoundDim, IsSoundAtt, IsSoundVar, IsSoundHeader, BeginsFit};
 
+use crate::length::header_length;
 use crate::padding::put_padded;
 use std::alloc::{AllocError, Global};
 use wf_model::{Att, Dim, Header, Var};
@@ -136,7 +137,8 @@ pub fn write_header(alloc: Global, header: &Header) -> Result<Vec<u8>, AllocErro
     requires begins { BeginsFit header.now }
     ensures { IfOk result (λ v. v.items ≡ header_bytes header.now) }
 {
-    let mut out = Vec::new(alloc);
+    let capacity = usize::try_from(header_length(header)).unwrap_or(usize::MAX);
+    let mut out = Vec::with_capacity(alloc, capacity)?;
     out.extend_from_slice(b"CDF")?;
     out.push(header.version)?;
     put_word(&mut out, header.numrecs)?;

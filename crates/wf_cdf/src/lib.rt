@@ -7,12 +7,14 @@ mod padding;
 mod place;
 mod size;
 mod slab;
+mod sound;
 mod too_long;
 
 pub use header::write_header;
 pub use place::place_vars;
 pub use slab::{write_chars, write_slab};
+pub use sound::{begins_fit, is_sound};
 pub use too_long::TooLong;
 
-//#[cfg(test)]
-//mod tests;
+#[cfg(test)]
+mod tests;

@@ -11,7 +11,7 @@ use wf_model::{Dim, Header, Var};
 // greatest of its type.
 
 /// The bytes of a number of a type: byte, char, short, int, float and double are 1 to 6.
-fn type_size(kind: u8) -> u32
+pub(crate) fn type_size(kind: u8) -> u32
     requires { IsKind kind }
     ensures { result ≡ type_size kind }
 {
