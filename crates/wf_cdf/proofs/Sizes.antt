@@ -1,11 +1,11 @@
 -- The sizes of variables, one more at a time.
 use Rattle.std.proofs.Common.{◌≡◌, ◌⊎◌, ℕ, suc, zero, ◌+◌, ◌-◌, ◌*◌, ◌/◌, ◌%◌, ◌^◌, ◌<◌, ◌≤◌, min, max, Bool, true, false, cond, not, ltb, eqb, List, [], ◌∷◌, ◌++◌, length, take, drop, get_or, map, arith, refl, sym, ap, ◌∙◌}
-use Rattle.std.specs.List.{fold, filter, sum_by}
+use Rattle.std.specs.List.{fold, filter, sum_by, All}
 use Rattle.std.proofs.lemmas.List.{get_or_default, take-append-drop}
 use Rattle.std.proofs.lemmas.Bool.{ne_eqb}
 use Rattle.std.proofs.lemmas.List.Sums.{fold_more, sum_by-append}
 use Rattle.std.proofs.lemmas.List.Folds.{fold-map}
-use Rattle.std.proofs.lemmas.List.Elements.{filter_more, filter-append}
+use Rattle.std.proofs.lemmas.List.Elements.{filter_more, filter-append, All-tail}
 use Rattle.std.proofs.lemmas.List.Filters.{length-filter_more}
 use Rattle.wf_model.specs.declared.header.Header.{Header}
 use Rattle.wf_model.specs.declared.header.Dim.{Dim}
@@ -19,6 +19,10 @@ use Rattle.wf_cdf.proofs.CappedSums.{capped_mul, capped_mul_left, capped_add}
 pub rest_of_drop : (xs : List ℕ) → rest_of xs ≡ drop 1 xs
 rest_of_drop [] = refl
 rest_of_drop (x ∷ xs) = refl
+
+pub All_rest_of : (P : ℕ → Type 0) (xs : List ℕ) → All P xs → All P (rest_of xs)
+All_rest_of P [] all = all
+All_rest_of P (x ∷ xs) all = All-tail P x xs all
 
 -- a product of lengths as one fold
 product_fold : (dims : List Dim) (ns : List ℕ) → product (lengths dims ns) ≡ fold (λ a n. a * (dim_of dims n).len) 1 ns

@@ -1,6 +1,6 @@
 ghost use Rattle.std.specs.Prelude.{◌≡◌, ◌<◌, ◌^◌, All, length, filter, sum_by, not, ◌==◌, if◌then◌else◌};
 ghost use Rattle.wf_model.specs.Bytes.{header_bytes};
-ghost use Rattle.wf_model.specs.Sizes.{type_size, begins_with_record, is_record_var, lengths, product, slab_dims, slab_size, padded_size, rounded, record_size, fixed_size, file_size};
+ghost use Rattle.wf_model.specs.Sizes.{type_size, rest_of, begins_with_record, is_record_var, lengths, product, slab_dims, slab_size, padded_size, rounded, record_size, fixed_size, file_size};
 ghost use Rattle.wf_model.specs.SoundHeader.{IsKind, IsSoundVar, IsSoundHeader};
 ghost use Rattle.wf_cdf.specs.Capped.{capped};
 
@@ -45,6 +45,14 @@ fn product(dims: &[Dim], numbers: &[u32]) -> u128
         product = product.saturating_mul(u128::from(dims[*number as usize].len));
     }
     product
+}
+
+/// All of these dimensions but the first.
+#[tactic(auto, using(crate::proofs::Sizes::rest_of_drop))]
+pub(crate) fn all_but_first(numbers: &[u32]) -> &[u32]
+    ensures { result.now ≡ rest_of numbers.now }
+{
+    if numbers.is_empty() { numbers } else { &numbers[1..] }
 }
 
 /// The dimensions of a variable but for the record dimension.

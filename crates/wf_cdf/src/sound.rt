@@ -2,7 +2,7 @@ ghost use Rattle.std.specs.Prelude.{◌≡◌, ◌≤◌, ◌⊎◌, ◌*◌, �
 ghost use Rattle.wf_model.specs.Sizes.{type_size, is_record_dim, dim_of, rest_of};
 ghost use Rattle.wf_model.specs.SoundHeader.{IsCount, IsKind, IsSoundDim, IsSoundAtt, IsSoundVar, IsSoundHeader, BeginsFit};
 
-use crate::size::type_size;
+use crate::size::{all_but_first, type_size};
 use wf_model::{Att, Dim, Header, Var};
 
 fn is_count(length: usize) -> bool
@@ -77,10 +77,7 @@ fn has_record_first(dims: &[Dim], numbers: &[u32]) -> bool
     requires { All (λ n. n < length dims.now) numbers.now }
     ensures { IsTrue result ↔ All (λ n. IsTrue (not (is_record_dim (dim_of dims.now n)))) (rest_of numbers.now) }
 {
-    match numbers {
-        [] => true,
-        [_, rest @ ..] => are_fixed(dims, rest),
-    }
+    are_fixed(dims, all_but_first(numbers))
 }
 
 fn is_kind(kind: u8) -> bool
