@@ -17,6 +17,11 @@ pub enum IoError {
 }
 
 impl Display for IoError {
+    ghost use Rattle.std.specs.Prelude.{Some};
+    ghost use Rattle.wf_io.specs.ErrorText.{error_text};
+
+    ghost output = { λ e. Some (error_text e) };
+
     fn fmt<W: Write>(&self, f: &mut Formatter<W>) -> fmt::Result {
         match self {
             IoError::Fault => f.write_str("fault of reading or writing"),
