@@ -63,3 +63,5 @@ pub mod FilesRead
 pub mod DemoCase
 pub mod GenCase
 pub mod Demo
+pub mod Turns
+pub mod Agreement
