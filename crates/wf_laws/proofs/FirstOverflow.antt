@@ -1,10 +1,15 @@
 -- The outcome of a run place by place: no item overflows before the first overflow, and it is that of its item.
-use Rattle.std.proofs.Common.{◌≡◌, ℕ, zero, suc, ◌+◌, ◌≤◌, ◌<◌, List, [], ◌∷◌, take, length, get_or, refl, ap, arith, Some, None, Result, Ok, Err}
+use Rattle.std.proofs.Common.{◌≡◌, ℕ, zero, suc, ◌+◌, ◌≤◌, ◌<◌, List, [], ◌∷◌, take, length, get_or, Bool, true, false, nat_lt, refl, sym, ap, ◌∙◌, arith, Some, None, Result, Ok, Err}
 use Rattle.std.specs.Prelude.{fold}
 use Rattle.wf_model.specs.declared.script.Entry.{Entry}
 use Rattle.wf_model.specs.declared.point.Point.{Point}
 use Rattle.wf_model.specs.Grids.{Grids}
-use Rattle.wf_model.specs.Outcome.{RunData, Overflow, script, no_entry, begin_grids, grids_after, grids_at, overflow_of, or_go_on, outcome_from, outcome_of}
+use Rattle.wf_model.specs.Outcome.{RunData, Overflow, script, no_entry, entry_at, begin_grids, grids_after, grids_at, overflow_of, or_go_on, outcome_from, outcome_of}
+use Rattle.wf_model.specs.Held.{stands_past}
+use Rattle.wf_model.specs.Agreement.{IsUpToOverflow}
+use Rattle.wf_laws.specs.Outcomes.{ItemTakesTheGridsOn, NoItemBeforeOverflows, RunEndsWithItsLastGrids, IsOverflowOfItsItem, FirstOverflowIsItsItems, EarlierPlacesAreReached}
+use Rattle.wf_laws.proofs.Bools.{split_bool}
+use Rattle.wf_laws.proofs.Runs.{grids_at_more, outcome_from-Ok}
 
 -- no item before the place overflows
 pub record IsClean (r : RunData) (n : ℕ) : Type 0 where
@@ -62,3 +67,75 @@ clean-Err r o n p l = record { clean = λ m k. clean_Err r 0 (script r) (begin_g
 pub place-Err : (r : RunData) (o : Overflow) → outcome_of r ≡ Err o → o.place < length (script r)
 unfolding outcome_of
 place-Err r o p = omega (arith, (place_from r 0 (script r) (begin_grids r) o p).1)
+
+take_all : {X : Type 0} (xs : List X) → take (length xs) xs ≡ xs
+take_all [] = refl
+take_all (x ∷ xs) = ap (λ (ys : List _). x ∷ ys) (take_all xs)
+
+-- the overflow that a run names is that of the item there
+point_from : (r : RunData) (k : ℕ) (es : List Entry) (g : Grids) (o : Overflow) (m : ℕ) (c : Entry) → outcome_from r k es g ≡ Err o → k + m ≡ o.place →
+    overflow_of r (get_or es m c) (fold (grids_after r) g (take m es)) ≡ Some o.point
+unfolding outcome_from
+point_from r k [] g o m c p l = grind arith
+point_from r k (e ∷ es) g o zero c p l =
+    (elim (overflow_of r e g) as (λ x. or_go_on x k (outcome_from r (k + 1) es (grids_after r g e)) ≡ Err o → x ≡ Some o.point) [
+      | None ↦ λ q. absurd (later (k + 1) k o.place (omega (arith, l)) (place_from r (k + 1) es (grids_after r g e) o q).0)
+      | Some x ↦ λ q. same_point q
+    ]) p
+  where
+    later : (a k b : ℕ) → (a ≡ b + 1) → a ≤ b → ⊥
+    later a k b e h = omega arith
+
+    same_point : {x : Point} {o : Overflow} {k : ℕ} → ◌≡◌ {A = Result Grids Overflow} (Err (record { place = k; point = x })) (Err o) → Some x ≡ Some o.point
+    same_point {x = x} {o = o} {k = k} q = let e : record { place = k; point = x } ≡ o = cc in ap (λ (y : Overflow). Some y.point) e
+point_from r k (e ∷ es) g o (suc m) c p l =
+    (elim (overflow_of r e g) as (λ x. or_go_on x k (outcome_from r (k + 1) es (grids_after r g e)) ≡ Err o → overflow_of r (get_or es m c) (fold (grids_after r) (grids_after r g e) (take m es)) ≡ Some o.point) [
+      | None ↦ λ q. point_from r (k + 1) es (grids_after r g e) o m c q (omega (arith, l))
+      | Some x ↦ λ q. let is : k ≡ o.place = same_place q in absurd (omega arith)
+    ]) p
+
+not_past : (m n : ℕ) → m ≤ n → nat_lt n m ≡ false
+not_past m n h = grind arith
+
+from_past : (m n : ℕ) → nat_lt n m ≡ false → m ≤ n
+from_past m n h = grind arith
+
+-- a place that the run comes to has only items before it that do not overflow
+pub clean_up_to : (r : RunData) (n : ℕ) → IsUpToOverflow r n → IsClean r n
+clean_up_to r n h =
+    (elim (outcome_of r) as (λ o. outcome_of r ≡ o → stands_past n o ≡ false → IsClean r n) [
+      | Ok g ↦ λ q past. clean-Ok r g n q h.within
+      | Err o ↦ λ q past. clean-Err r o n q (from_past n o.place past)
+    ]) refl h.before
+
+pub takes_on : ItemTakesTheGridsOn
+unfolding entry_at
+takes_on r n h = grids_at_more r n no_entry h
+
+pub none_before : NoItemBeforeOverflows
+unfolding entry_at
+none_before r n m up h = (clean_up_to r n up).clean m h
+
+pub ends_with : RunEndsWithItsLastGrids
+unfolding outcome_of grids_at
+ends_with r g p = (
+  sym (ap (fold (grids_after r) (begin_grids r)) (take_all (script r)) ∙ outcome_from-Ok r 0 (script r) (begin_grids r) g p),
+  record { within = omega arith; before = ap (stands_past (length (script r))) p },
+)
+
+pub first_is : FirstOverflowIsItsItems
+unfolding outcome_of grids_at entry_at
+first_is r o p = record {
+  within = place-Err r o p;
+  point = point_from r 0 (script r) (begin_grids r) o o.place no_entry p (omega arith);
+  reached = record { within = omega (arith, place-Err r o p); before = ap (stands_past o.place) p ∙ not_past o.place o.place (omega arith) };
+}
+
+pub earlier : EarlierPlacesAreReached
+earlier r m n h up = record {
+  within = omega (arith, up.within);
+  before = (elim (outcome_of r) as (λ o. stands_past n o ≡ false → stands_past m o ≡ false) [
+    | Ok g ↦ λ past. refl
+    | Err o ↦ λ past. not_past m o.place (omega (arith, from_past n o.place past))
+  ]) up.before;
+}
