@@ -1,10 +1,9 @@
 -- What the halo rule finds covered in the finest layout is covered in each layout.
-use Rattle.std.proofs.Common.{◌≡◌, ⊎_elim, ℕ, zero, suc, ◌+◌, ◌*◌, ◌≤◌, ◌<◌, Bool, true, false, List, [], ◌∷◌, reverse, length, get_or, refl, sym, ap, subst, ◌∙◌, arith}
+use Rattle.std.proofs.Common.{◌≡◌, ⊎_elim, ℕ, suc, ◌+◌, ◌*◌, ◌<◌, Bool, true, false, List, [], ◌∷◌, reverse, length, get_or, sym, ap, subst, ◌∙◌, arith}
 use Rattle.std.proofs.lemmas.List.{reverse-reverse}
 use Rattle.std.specs.Prelude.{ℤ, ◌+ℤ◌, ◌||◌, not, flat_map}
 use Rattle.std.specs.List.{enumerate_from}
 use Rattle.wf_model.specs.declared.plan.Plan.{Plan}
-use Rattle.wf_model.specs.declared.plan.Phase.{Phase}
 use Rattle.wf_model.specs.declared.plan.Item.{Item}
 use Rattle.wf_model.specs.declared.plan.Item.TheVariants as item
 use Rattle.wf_model.specs.Plans.{field_of, item_of, no_item, domains_of, level_at}
@@ -14,12 +13,12 @@ use Rattle.wf_model.specs.Cycle.{Turn, cycle_of, before_items}
 use Rattle.wf_model.specs.Marks.{all_fresh, marks_after}
 use Rattle.wf_model.specs.Covered.{Asked, asked_of, all_asked, is_cell_covered, IsReadCovered, IsCovered, walk, looked_back}
 use Rattle.wf_model.specs.Sound.{IsDomain, IsLevel, IsSoundItem, IsSoundPhase, IsSoundRead, IsSoundPlan}
-use Rattle.wf_laws.specs.Walks.{MarksAgreeWithTheWalk, LeavingOutLosesNothing, LookingLessFarLosesNothing, TwoCyclesAreEnough, CoveredInEachLayout, is_cell_covered_in}
+use Rattle.wf_laws.specs.Walks.{MarksAgreeWithTheWalk, LeavingOutLosesNothing, LookingLessFarLosesNothing, TwoCyclesAreEnough, CoveredInEachLayout}
 use Rattle.wf_laws.proofs.Bools.{or_left, or_right, differ, split_bool}
 use Rattle.wf_laws.proofs.Members.{In, In-map_out, In-flat_map_out, In-range_out, All-In, Contains-In}
 use Rattle.wf_laws.proofs.Places.{IsRoom, room_of}
 use Rattle.wf_laws.proofs.Boxes.{grows}
-use Rattle.wf_laws.proofs.Walks.{backwards, backwards_is, marks-walk}
+use Rattle.wf_laws.proofs.Walks.{backwards_is, marks-walk}
 use Rattle.wf_laws.proofs.Grows.{walk-left_out, walk-shorter, walk-grows}
 use Rattle.wf_laws.proofs.Rounds.{alike_back, pass_any}
 use Rattle.wf_laws.proofs.Fresh.{asked, fine_of, own_larger, or_take, turn_sound, pair_swaps}

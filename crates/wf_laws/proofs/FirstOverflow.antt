@@ -1,5 +1,5 @@
 -- The outcome of a run place by place: no item overflows before the first overflow, and it is that of its item.
-use Rattle.std.proofs.Common.{◌≡◌, ℕ, zero, suc, ◌+◌, ◌≤◌, ◌<◌, List, [], ◌∷◌, take, length, get_or, Bool, true, false, nat_lt, refl, sym, ap, ◌∙◌, arith, Some, None, Result, Ok, Err}
+use Rattle.std.proofs.Common.{◌≡◌, ℕ, zero, suc, ◌+◌, ◌≤◌, ◌<◌, List, [], ◌∷◌, take, length, get_or, false, nat_lt, refl, sym, ap, ◌∙◌, arith, Some, None, Result, Ok, Err}
 use Rattle.std.specs.Prelude.{fold}
 use Rattle.wf_model.specs.declared.script.Entry.{Entry}
 use Rattle.wf_model.specs.declared.point.Point.{Point}
@@ -7,8 +7,7 @@ use Rattle.wf_model.specs.Grids.{Grids}
 use Rattle.wf_model.specs.Outcome.{RunData, Overflow, script, no_entry, entry_at, begin_grids, grids_after, grids_at, overflow_of, or_go_on, outcome_from, outcome_of}
 use Rattle.wf_model.specs.Held.{stands_past}
 use Rattle.wf_model.specs.Agreement.{IsUpToOverflow}
-use Rattle.wf_laws.specs.Outcomes.{ItemTakesTheGridsOn, NoItemBeforeOverflows, RunEndsWithItsLastGrids, IsOverflowOfItsItem, FirstOverflowIsItsItems, EarlierPlacesAreReached}
-use Rattle.wf_laws.proofs.Bools.{split_bool}
+use Rattle.wf_laws.specs.Outcomes.{ItemTakesTheGridsOn, NoItemBeforeOverflows, RunEndsWithItsLastGrids, FirstOverflowIsItsItems, EarlierPlacesAreReached}
 use Rattle.wf_laws.proofs.Runs.{grids_at_more, outcome_from-Ok}
 
 -- no item before the place overflows

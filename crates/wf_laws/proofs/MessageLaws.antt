@@ -1,15 +1,14 @@
 -- The laws of messages: each cell comes once, from its owner, with its numbers.
-use Rattle.std.proofs.Common.{◌≡◌, ℕ, ◌+◌, ◌*◌, ◌≤◌, ◌<◌, Bool, true, false, List, [], ◌∷◌, inl, inr, ⊎_elim, refl, sym, ap, subst, ◌∙◌, arith, length, get_or}
-use Rattle.std.specs.Prelude.{ℤ, pos, ◌==◌, filter, map, flat_map, if◌then◌else◌}
+use Rattle.std.proofs.Common.{◌≡◌, ℕ, ◌*◌, ◌<◌, true, List, [], ◌∷◌, inl, inr, ⊎_elim, refl, sym, ap, subst, ◌∙◌, arith, length}
+use Rattle.std.specs.Prelude.{pos, ◌==◌, map, if◌then◌else◌}
 use Rattle.wf_model.specs.declared.layout.Layout.{Layout}
 use Rattle.wf_model.specs.declared.plan.Plan.{Plan}
 use Rattle.wf_model.specs.declared.script.Act.{Act}
 use Rattle.wf_model.specs.declared.script.Act.TheVariants.{Start, Force, Feedback, Table, Emit}
 use Rattle.wf_model.specs.declared.script.Entry.{Entry}
-use Rattle.wf_model.specs.Plans.{domain_of, item_of, point_x, point_y}
-use Rattle.wf_model.specs.Grids.{Grids}
-use Rattle.wf_model.specs.Outcome.{RunData, script, entry_at, no_entry, grids_at, outcome_of}
-use Rattle.wf_model.specs.Patches.{Split, Cell, split_of, is_own, is_in_domain, owner_of}
+use Rattle.wf_model.specs.Plans.{item_of, point_x, point_y}
+use Rattle.wf_model.specs.Outcome.{RunData, script, entry_at, grids_at, outcome_of}
+use Rattle.wf_model.specs.Patches.{Split, Cell, split_of, is_in_domain}
 use Rattle.wf_model.specs.Shapes.{cell_owner, fetched_cells, grid_cell}
 use Rattle.wf_model.specs.Exchange.{sender_of, carried}
 use Rattle.wf_model.specs.Core.{memory_point}
@@ -22,7 +21,6 @@ use Rattle.wf_laws.proofs.Bools.{equal_of, equal_test, split_bool}
 use Rattle.wf_laws.proofs.Members.{In, In-filter, In-filter_out, In-Contains, Contains-In}
 use Rattle.wf_laws.proofs.Places.{IsRoom, room_of, back_x, back_y, place-domain}
 use Rattle.wf_laws.proofs.Cells.{IsPointCell, fetched_point}
-use Rattle.wf_laws.proofs.Owners.{one_owner}
 use Rattle.wf_laws.proofs.Senders.{IsSent, owner_is, owner_there, among_owner, carried_sent}
 use Rattle.wf_laws.proofs.FirstOverflow.{clean_up_to}
 use Rattle.wf_laws.proofs.WholeRun.{own_right, sender_domain}

@@ -1,6 +1,6 @@
 -- What a patch names at an entry of the script: nothing, or the least point at which a setting fails that agrees with the entry's change.
-use Rattle.std.proofs.Common.{◌≡◌, ◌⊎◌, inl, inr, ⊎_elim, ℕ, ◌*◌, ◌%◌, ◌<◌, Bool, true, false, List, [], refl, sym, ap, subst, ◌∙◌, Option, Some, None}
-use Rattle.std.specs.Prelude.{◌==◌, ◌&&◌, ◌||◌, map, flat_map, filter, zip, is_none}
+use Rattle.std.proofs.Common.{◌≡◌, ◌⊎◌, inl, inr, ⊎_elim, ℕ, ◌*◌, ◌<◌, false, List, [], refl, sym, ap, subst, ◌∙◌, Option, Some, None}
+use Rattle.std.specs.Prelude.{◌==◌, ◌||◌, map, flat_map, filter, zip}
 use Rattle.std.specs.Option.{option_or}
 use Rattle.wf_model.specs.declared.plan.Plan.{Plan}
 use Rattle.wf_model.specs.declared.plan.Item.{Item}
@@ -10,14 +10,14 @@ use Rattle.wf_model.specs.declared.script.Act.TheVariants.{Start, Force, Feedbac
 use Rattle.wf_model.specs.declared.script.Entry.{Entry}
 use Rattle.wf_model.specs.Plans.{domain_of, item_of}
 use Rattle.wf_model.specs.Grids.{Grids}
-use Rattle.wf_model.specs.Changes.{Change, Spot, nothing, spots, overflows_at, overflow_in, table_change, swap_change}
+use Rattle.wf_model.specs.Changes.{Spot, nothing, spots, overflows_at, overflow_in, table_change, swap_change}
 use Rattle.wf_model.specs.Outcome.{RunData, act_change}
 use Rattle.wf_model.specs.Patches.{Split, patches_of}
 use Rattle.wf_model.specs.Cycle.{Turn}
 use Rattle.wf_model.specs.Marks.{all_fresh, marks_after}
 use Rattle.wf_model.specs.Covered.{IsCovered}
 use Rattle.wf_model.specs.Exchange.{sender_of, receiver_of, carried, has_cells}
-use Rattle.wf_model.specs.PatchEffect.{Memory, Mail, Setting, computing, taking, item_setting, phase_setting, start_setting, force_setting, feedback_setting, least_failure}
+use Rattle.wf_model.specs.PatchEffect.{Mail, Setting, computing, taking, item_setting, start_setting, force_setting, feedback_setting, least_failure}
 use Rattle.wf_model.specs.Core.{memory_point}
 use Rattle.wf_model.specs.Sound.{IsDomain, IsSoundItem, IsSoundPlan}
 use Rattle.wf_laws.specs.Stops.{Memories}

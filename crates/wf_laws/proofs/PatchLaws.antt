@@ -1,12 +1,10 @@
 -- The laws of patches: what they hold, read and compute up to the first overflow.
-use Rattle.std.proofs.Common.{◌≡◌, ⊎_elim, ℕ, ◌+◌, ◌≤◌, ◌<◌, Bool, true, false, List, [], ◌∷◌, ◌++◌, length, refl, sym, ap, subst, ◌∙◌, arith}
-use Rattle.std.proofs.lemmas.List.Elements.{filter-append}
-use Rattle.std.specs.Prelude.{filter, nat_lt, ℤ}
+use Rattle.std.proofs.Common.{ℕ, sym, subst, ◌∙◌, arith}
 use Rattle.wf_model.specs.declared.layout.Layout.{Layout}
 use Rattle.wf_model.specs.Outcome.{RunData, entry_at, grids_at}
 use Rattle.wf_model.specs.Patches.{split_of}
 use Rattle.wf_model.specs.PatchEffect.{Memory}
-use Rattle.wf_model.specs.Marks.{Marks, all_fresh, marks_after}
+use Rattle.wf_model.specs.Marks.{all_fresh, marks_after}
 use Rattle.wf_model.specs.Sound.{IsDomain}
 use Rattle.wf_model.specs.Turns.{turns_at}
 use Rattle.wf_model.specs.Agreement.{IsAccepted, IsUpToOverflow, IsPatch, memory_at}

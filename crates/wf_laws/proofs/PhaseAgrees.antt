@@ -1,6 +1,6 @@
 -- What a patch computes in a phase agrees with the phase on the grids.
-use Rattle.std.proofs.Common.{◌≡◌, ℕ, ◌*◌, ◌<◌, Bool, true, refl, sym, ap, subst, ◌∙◌}
-use Rattle.std.specs.Prelude.{ℤ, pos, ◌&&◌, ◌==◌, is_none}
+use Rattle.std.proofs.Common.{◌≡◌, ℕ, ◌*◌, ◌<◌, true, refl, sym, ap, subst, ◌∙◌}
+use Rattle.std.specs.Prelude.{ℤ, ◌==◌, is_none}
 use Rattle.wf_model.specs.declared.plan.Plan.{Plan}
 use Rattle.wf_model.specs.declared.plan.Phase.{Phase}
 use Rattle.wf_model.specs.Value.{value_of}
@@ -10,7 +10,7 @@ use Rattle.wf_model.specs.Changes.{phase_change, in_region, sight_at}
 use Rattle.wf_model.specs.Outcome.{RunData}
 use Rattle.wf_model.specs.Patches.{Split, is_own, region_holds, computes}
 use Rattle.wf_model.specs.Marks.{Marks}
-use Rattle.wf_model.specs.PatchEffect.{Memory, phase_setting, patch_sight}
+use Rattle.wf_model.specs.PatchEffect.{Memory, phase_setting}
 use Rattle.wf_model.specs.Sound.{IsDomain, IsSoundPhase}
 use Rattle.wf_laws.proofs.Bools.{equal_of, and_left, and_right, and_both}
 use Rattle.wf_laws.proofs.Places.{IsRoom, own-place}

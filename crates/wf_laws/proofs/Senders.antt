@@ -1,18 +1,17 @@
 -- Who sends a cell: of each carried cell the sender owns the point, and no other patch sends it.
-use Rattle.std.proofs.Common.{◌≡◌, ⊎_elim, ℕ, ◌+◌, ◌*◌, ◌≤◌, ◌<◌, Bool, true, false, List, [], ◌∷◌, refl, sym, ap, subst, ◌∙◌, arith}
-use Rattle.std.proofs.lemmas.Int.{ints}
-use Rattle.std.specs.Prelude.{ℤ, pos, ◌==◌, filter, map, flat_map, length}
+use Rattle.std.proofs.Common.{◌≡◌, ℕ, ◌*◌, ◌≤◌, ◌<◌, true, List, sym, subst, ◌∙◌, arith}
+use Rattle.std.specs.Prelude.{pos, ◌==◌, filter, flat_map, length}
 use Rattle.std.specs.List.{list_any}
 use Rattle.wf_model.specs.declared.plan.Plan.{Plan}
 use Rattle.wf_model.specs.declared.script.Act.{Act}
 use Rattle.wf_model.specs.declared.script.Act.TheVariants.{Start, Force, Feedback, Table, Emit}
 use Rattle.wf_model.specs.declared.script.Entry.{Entry}
-use Rattle.wf_model.specs.Plans.{domain_of, item_of, levels_of, nx, ny, nz, point_x, point_y}
-use Rattle.wf_model.specs.Patches.{Split, Cell, own_box, is_own, is_place, is_in_domain, in_box, owner_of, cells_in}
+use Rattle.wf_model.specs.Plans.{domain_of, item_of, levels_of, nz, point_x, point_y}
+use Rattle.wf_model.specs.Patches.{Split, Cell, own_box, is_own, is_place, is_in_domain, in_box, cells_in}
 use Rattle.wf_model.specs.Shapes.{cell_owner, fetched_cells}
 use Rattle.wf_model.specs.Exchange.{same_cell, sender_of, around, cells_behind, start_cells, force_cells, feedback_cells, owned_among, carried}
 use Rattle.wf_model.specs.Sound.{IsLevel}
-use Rattle.wf_laws.proofs.Bools.{equal_of, equal_test}
+use Rattle.wf_laws.proofs.Bools.{equal_of}
 use Rattle.wf_laws.proofs.Members.{In, In-flat_map, In-flat_map_out, In-filter, In-filter_out, In-range, list_any-In}
 use Rattle.wf_laws.proofs.Fetch.{same_cell-same}
 use Rattle.wf_laws.proofs.Places.{IsRoom, owner_owns, range_x, range_y, place-domain, own-domain}

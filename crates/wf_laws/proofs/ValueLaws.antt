@@ -1,13 +1,13 @@
 -- The laws of values and of lists of grids.
-use Rattle.std.proofs.Common.{◌≡◌, ℕ, ◌+◌, ◌-◌, ◌*◌, ◌≤◌, ◌<◌, List, [], ◌∷◌, ap, ◌∙◌, arith}
+use Rattle.std.proofs.Common.{◌≡◌, ℕ, ◌+◌, ◌-◌, ◌*◌, ◌≤◌, List, [], ◌∷◌, ap, ◌∙◌, arith}
 use Rattle.std.proofs.Math.Nat.{add-mul, mul_assoc}
 use Rattle.std.proofs.lemmas.List.Elements.{All-head, All-tail}
 use Rattle.std.specs.List.{All}
-use Rattle.std.specs.Prelude.{ℤ, pos, slice_index_or}
+use Rattle.std.specs.Prelude.{pos, slice_index_or}
 use Rattle.wf_model.specs.Numbers.{and_then, in_i32}
 use Rattle.wf_model.specs.Plans.{nx, ny, nz}
 use Rattle.wf_model.specs.Reads.{Read, reads_of}
-use Rattle.wf_model.specs.Grids.{Grids, grid_from, level_list}
+use Rattle.wf_model.specs.Grids.{grid_from, level_list}
 use Rattle.wf_laws.specs.Values.{ValueDependsOnItsReads, ListHasEachPointOnce, ListHasPointsInOrder, GridOfTheListIsTheGrid}
 use Rattle.wf_laws.proofs.Expressions.{AllReads, number_of-same}
 use Rattle.wf_laws.proofs.Listing.{length-listed, get_or-listed}

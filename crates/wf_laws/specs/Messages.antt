@@ -1,5 +1,5 @@
 -- The messages of halos, periods and nest items: which cells they carry, and which numbers.
-use Rattle.std.specs.Prelude.{◌≡◌, ℕ, ◌*◌, ◌<◌, ◌≤◌, List, [], ℤ, length, map, flat_map, IsTrue}
+use Rattle.std.specs.Prelude.{◌≡◌, ℕ, ◌*◌, ◌<◌, List, [], ℤ, length, map, flat_map, IsTrue}
 use Rattle.std.specs.List.{Contains}
 use Rattle.wf_model.specs.declared.layout.Layout.{Layout}
 use Rattle.wf_model.specs.declared.plan.Plan.{Plan}

@@ -3,7 +3,7 @@ use Rattle.std.specs.Prelude.{◌≡◌, ℕ, ◌+◌, ◌*◌, ◌<◌, ◌≤�
 use Rattle.wf_model.specs.declared.layout.Layout.{Layout}
 use Rattle.wf_model.specs.declared.plan.Plan.{Plan}
 use Rattle.wf_model.specs.Plans.{nx, ny}
-use Rattle.wf_model.specs.Patches.{Cell, Split, split_of, in_span, block, is_own, is_in_domain, owner_of}
+use Rattle.wf_model.specs.Patches.{Cell, split_of, in_span, block, is_own, is_in_domain, owner_of}
 use Rattle.wf_model.specs.Sound.{IsDomain, IsSoundLayout}
 use Rattle.wf_model.specs.Agreement.{IsPatch, IsOwnCell, IsMemoryCell}
 

@@ -1,5 +1,5 @@
 -- Overflow in patches: which point a patch names at a place.
-use Rattle.std.specs.Prelude.{◌≡◌, ℕ, ◌==◌, ◌<◌, Bool, false, ◌&&◌, List, length, map, flat_map, zip, find, Option, Some, None, Err, option_map, IsTrue}
+use Rattle.std.specs.Prelude.{◌≡◌, ℕ, ◌==◌, ◌<◌, Bool, false, ◌&&◌, length, map, flat_map, zip, find, Option, Some, None, Err, option_map, IsTrue}
 use Rattle.std.specs.Option.{option_or}
 use Rattle.std.specs.List.{list_any, Contains}
 use Rattle.wf_model.specs.declared.layout.Layout.{Layout}

@@ -6,7 +6,7 @@ use Rattle.wf_model.specs.declared.plan.Plan.{Plan}
 use Rattle.wf_model.specs.Value.{Sight, Answers, value_of}
 use Rattle.wf_model.specs.Reads.{reads_of}
 use Rattle.wf_model.specs.Plans.{nx, ny, nz}
-use Rattle.wf_model.specs.Grids.{Grid, Grids, listed, grid_from, level_list}
+use Rattle.wf_model.specs.Grids.{Grids, grid_from, level_list}
 
 -- two sights show an expression the same point, the same step, and the same number at each of its reads
 pub record ShowAlike (x : Expr) (s t : Sight) : Type 0 where

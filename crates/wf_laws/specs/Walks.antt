@@ -8,7 +8,7 @@ use Rattle.wf_model.specs.Patches.{Split, split_of, is_own, computes}
 use Rattle.wf_model.specs.Cycle.{Turn, forced, fed, cycle_of, before_items}
 use Rattle.wf_model.specs.Marks.{all_fresh, marks_after}
 use Rattle.wf_model.specs.Covered.{Asked, all_asked, walk, looked_back, IsCovered}
-use Rattle.wf_model.specs.Sound.{IsLevel, IsDomain, IsSoundPlan, IsSoundLayout}
+use Rattle.wf_model.specs.Sound.{IsLevel, IsSoundPlan, IsSoundLayout}
 use Rattle.wf_model.specs.Agreement.{IsPatch}
 
 -- the marks after some items, from all fresh, are what the walk back over them finds

@@ -6,33 +6,28 @@ ghost use Rattle.wf_laws.specs.Walks.{MarksAgreeWithTheWalk, LeavingOutLosesNoth
 #[tactic(auto, using(crate::proofs::AnyLayout::marks_agree))]
 pub fn marks_agree_with_the_walk()
     ensures { MarksAgreeWithTheWalk }
-{
-}
+{}
 
 /// A walk that ends in yes does so where some forces and feedbacks are left out, as at a start, or where a nest has not started.
 #[tactic(auto, using(crate::proofs::AnyLayout::left_out))]
 pub fn leaving_out_loses_nothing()
     ensures { LeavingOutLosesNothing }
-{
-}
+{}
 
 /// A walk that ends in yes does so where it has fewer items to look back at, as in the first steps of a run.
 #[tactic(auto, using(crate::proofs::AnyLayout::less_far))]
 pub fn looking_less_far_loses_nothing()
     ensures { LookingLessFarLosesNothing }
-{
-}
+{}
 
 /// A walk that ends in yes over two whole cycles of a domain does so over any number of them.
 #[tactic(auto, using(crate::proofs::AnyLayout::two_enough))]
 pub fn two_cycles_are_enough()
     ensures { TwoCyclesAreEnough }
-{
-}
+{}
 
 /// On a plan that the halo check accepts, what it found covered in the layout of one point a patch is covered in each layout.
 #[tactic(auto, using(crate::proofs::AnyLayout::each_layout))]
 pub fn covered_in_each_layout()
     ensures { CoveredInEachLayout }
-{
-}
+{}
