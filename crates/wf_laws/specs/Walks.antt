@@ -1,14 +1,15 @@
 -- The halo rule's walk back from a read, and the marks carried forward.
-use Rattle.std.specs.Prelude.{◌≡◌, ℕ, zero, suc, ◌+◌, Bool, not, ◌||◌, List, [], ◌∷◌, ◌++◌, length, reverse, take, drop, ℤ, ◌+ℤ◌, IsTrue}
-use Rattle.std.specs.List.{Contains}
+use Rattle.std.specs.Prelude.{◌≡◌, ℕ, zero, suc, ◌+◌, ◌*◌, ◌<◌, Bool, not, ◌||◌, List, [], ◌∷◌, ◌++◌, length, reverse, take, drop, ℤ, ◌+ℤ◌, IsTrue, IsFalse}
+use Rattle.std.specs.List.{All, Contains}
 use Rattle.wf_model.specs.declared.layout.Layout.{Layout}
 use Rattle.wf_model.specs.declared.plan.Plan.{Plan}
 use Rattle.wf_model.specs.Plans.{level_at}
-use Rattle.wf_model.specs.Patches.{Split, split_of, is_own, computes}
+use Rattle.wf_model.specs.Patches.{Split, split_of, fine, is_own, computes}
 use Rattle.wf_model.specs.Cycle.{Turn, forced, fed, cycle_of, before_items}
-use Rattle.wf_model.specs.Marks.{all_fresh, marks_after}
-use Rattle.wf_model.specs.Covered.{Asked, all_asked, walk, looked_back, IsCovered}
-use Rattle.wf_model.specs.Sound.{IsLevel, IsSoundPlan, IsSoundLayout}
+use Rattle.wf_model.specs.Marks.{all_fresh, marks_after, is_fresh}
+use Rattle.wf_model.specs.Covered.{Asked, all_asked, walk, looked_back, IsReadCovered, IsCovered}
+use Rattle.wf_model.specs.Uncovered.{is_read_covered}
+use Rattle.wf_model.specs.Sound.{IsLevel, IsDomain, IsSoundPlan, IsSoundLayout}
 use Rattle.wf_model.specs.Agreement.{IsPatch}
 
 -- the marks after some items, from all fresh, are what the walk back over them finds
@@ -61,3 +62,40 @@ abbrev pub CoveredInEachLayout : Type 0
 CoveredInEachLayout =
     (plan : Plan) (layout : Layout) (a : Asked) (p k : ℕ) (j i : ℤ) → IsSoundPlan plan → IsSoundLayout plan layout → IsCovered plan → Contains (all_asked plan) a → IsPatch layout p →
     IsTrue (is_cell_covered_in plan (split_of layout) a p k j i)
+
+-- the own points of a patch are own points of another layout's patch
+abbrev pub IsPartOf : Plan → Split → Split → ℕ → ℕ → ℕ → Type 0
+IsPartOf plan small big d q p = (f : ℕ) (j i : ℤ) → IsTrue (is_own plan small d q f j i) → IsTrue (is_own plan big d p f j i)
+
+-- over items of a domain's cycle, what is fresh for a patch of one point is fresh for each patch that it is part of
+abbrev pub FreshForThePartIsFreshForTheWhole : Type 0
+FreshForThePartIsFreshForTheWhole =
+    (plan : Plan) (layout : Layout) (d q p f k : ℕ) (j i : ℤ) (ts : List Turn) → IsSoundPlan plan → IsSoundLayout plan layout → IsDomain plan d → q < (fine plan d).in_x * (fine plan d).in_y → IsPatch layout p →
+    IsPartOf plan (fine plan d) (split_of layout) d q p → All (Contains (cycle_of plan d)) ts →
+    IsTrue (is_fresh plan (fine plan d) d q (marks_after plan (fine plan d) d q ts all_fresh) f k j i) →
+    IsTrue (is_fresh plan (split_of layout) d p (marks_after plan (split_of layout) d p ts all_fresh) f k j i)
+
+-- the test of a read, over the points that patches may compute, is the rule
+abbrev pub ReadTestIsTheRule : Type 0
+ReadTestIsTheRule =
+    (plan : Plan) (a : Asked) → IsSoundPlan plan → Contains (all_asked plan) a → (IsTrue (is_read_covered plan a) → IsReadCovered plan a) × (IsReadCovered plan a → IsTrue (is_read_covered plan a))
+
+-- two whole cycles of a domain, and a third up to a place
+abbrev pub third_cycle : Plan → ℕ → ℕ → List Turn
+third_cycle plan d at = cycle_of plan d ++ cycle_of plan d ++ take at (cycle_of plan d)
+
+-- a patch of the finest layout that computes a point in its domain's third cycle and reads a cell that is not fresh
+pub record ReadsAStaleCell (plan : Plan) (a : Asked) : Type 0 where
+  pub patch : ℕ
+  pub k : ℕ
+  pub j : ℤ
+  pub i : ℤ
+  pub below : patch < (fine plan a.domain).in_x * (fine plan a.domain).in_y
+  pub computed : IsTrue (computes plan (fine plan a.domain) a.domain patch a.phase k j i)
+  pub stale : IsFalse (is_fresh plan (fine plan a.domain) a.domain patch
+      (marks_after plan (fine plan a.domain) a.domain patch (third_cycle plan a.domain (length (before_items a.domain) + a.item)) all_fresh)
+      a.read.field (level_at plan a.read.field k a.read.dk) (j +ℤ a.read.dj) (i +ℤ a.read.di))
+
+-- a read that the rule refuses meets such a cell
+abbrev pub RefusedReadsAreStale : Type 0
+RefusedReadsAreStale = (plan : Plan) (a : Asked) → IsSoundPlan plan → Contains (all_asked plan) a → (IsReadCovered plan a → ⊥) → ReadsAStaleCell plan a
