@@ -12,7 +12,7 @@ use Rattle.wf_model.specs.Patches.{Split, fine, is_own, computes, split_of}
 use Rattle.wf_model.specs.Cycle.{Turn, cycle_of, before_items}
 use Rattle.wf_model.specs.Marks.{all_fresh, marks_after}
 use Rattle.wf_model.specs.Covered.{Asked, asked_of, all_asked, is_cell_covered, IsReadCovered, IsCovered, walk, looked_back}
-use Rattle.wf_model.specs.Sound.{IsDomain, IsLevel, IsSoundItem, IsSoundPhase, IsSoundRead, IsSoundPlan}
+use Rattle.wf_model.specs.Sound.{IsDomain, IsSoundPlan}
 use Rattle.wf_laws.specs.Walks.{MarksAgreeWithTheWalk, LeavingOutLosesNothing, LookingLessFarLosesNothing, TwoCyclesAreEnough, CoveredInEachLayout}
 use Rattle.wf_laws.proofs.Bools.{or_left, or_right, differ, split_bool}
 use Rattle.wf_laws.proofs.Members.{In, In-map_out, In-flat_map_out, In-range_out, All-In, Contains-In}
@@ -82,13 +82,6 @@ asked_out plan a h =
 module _ (plan : Plan) (sound : IsSoundPlan plan) (split : Split) (a : Asked) (room : IsRoom plan split a.domain) (is : IsAsked plan a) (covered : IsCovered plan) where
   abbrev d : ℕ
   d = a.domain
-
-  -- the level of a read is one of the plan's
-  read_level : IsLevel plan a.read.field
-  unfolding item_of
-  read_level =
-      let s : IsSoundPhase plan a.phase = subst (IsSoundItem plan) is.phase (sound.items a.item no_item is.within) in
-      (All-In (IsSoundRead plan a.domain a.phase) a.read (reads_of a.phase.expr) (s.reads a.domain is.domain) is.read).level
 
   -- a computed cell's read is of an own cell, or covered
   covered_here : (p : ℕ) → p < split.in_x * split.in_y → (k : ℕ) (j i : ℤ) → computes plan split d p a.phase k j i ≡ true →

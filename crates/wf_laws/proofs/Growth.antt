@@ -1,20 +1,19 @@
 -- What is fresh for a patch of one point is fresh for each patch that it is part of.
-use Rattle.std.proofs.Common.{◌≡◌, ⊎_elim, ℕ, ◌+◌, ◌-◌, ◌*◌, ◌/◌, ◌%◌, ◌≤◌, ◌<◌, Bool, true, false, List, reverse, refl, sym, ap, ◌∙◌, arith}
+use Rattle.std.proofs.Common.{◌≡◌, ⊎_elim, ℕ, ◌+◌, ◌-◌, ◌*◌, ◌/◌, ◌%◌, ◌≤◌, ◌<◌, Bool, true, false, List, reverse, sym, ◌∙◌, arith}
 use Rattle.std.proofs.lemmas.Int.{ints}
-use Rattle.std.specs.Prelude.{ℤ, pos, ◌+ℤ◌, ◌-ℤ◌, ◌≤ℤ◌, ◌<ℤ◌, ◌&&◌, ◌||◌, ◌==◌, if◌then◌else◌}
-use Rattle.std.specs.List.{All, Contains}
+use Rattle.std.specs.Prelude.{ℤ, pos, ◌-ℤ◌, ◌≤ℤ◌, ◌<ℤ◌, ◌||◌, ◌==◌, if◌then◌else◌}
+use Rattle.std.specs.List.{Contains}
 use Rattle.wf_model.specs.declared.plan.Plan.{Plan}
 use Rattle.wf_model.specs.Plans.{domain_of, nx, ny}
 use Rattle.wf_model.specs.Patches.{Split, Span, split_of, fine, in_span, block, own_box, is_own}
 use Rattle.wf_model.specs.Cycle.{Turn, cycle_of}
 use Rattle.wf_model.specs.Marks.{all_fresh, marks_after, is_fresh}
-use Rattle.wf_model.specs.Covered.{walk}
 use Rattle.wf_model.specs.Sound.{IsSoundPlan}
 use Rattle.wf_laws.specs.Walks.{IsPartOf, FreshForThePartIsFreshForTheWhole}
 use Rattle.wf_laws.proofs.Bools.{and_left, and_right, and_both, or_left, or_right, split_bool, differ}
 use Rattle.wf_laws.proofs.Members.{In, All-In, Contains-In}
 use Rattle.wf_laws.proofs.Spans.{span-in, span-low, span-high, block_some}
-use Rattle.wf_laws.proofs.Places.{IsRoom, room_of, patch_x, patch_y}
+use Rattle.wf_laws.proofs.Places.{IsRoom, room_of}
 use Rattle.wf_laws.proofs.Boxes.{IsIn, grows}
 use Rattle.wf_laws.proofs.Grows.{SwapsAlike, walk-grows}
 use Rattle.wf_laws.proofs.Rounds.{alike_of, In-reverse}

@@ -1,22 +1,21 @@
 -- The test of a read is the rule, and a read that the rule refuses meets a cell that is not fresh.
-use Rattle.std.proofs.Common.{◌≡◌, ◌⊎◌, inl, inr, ⊎_elim, ℕ, ◌+◌, ◌*◌, ◌≤◌, ◌<◌, Bool, true, false, List, [], ◌∷◌, ◌++◌, length, reverse, take, drop, refl, sym, ap, subst, ◌∙◌, arith, append_assoc}
+use Rattle.std.proofs.Common.{◌≡◌, inl, inr, ⊎_elim, ℕ, ◌+◌, ◌*◌, ◌≤◌, ◌<◌, Bool, true, false, List, [], ◌∷◌, ◌++◌, length, reverse, take, drop, refl, sym, ap, subst, ◌∙◌, arith, append_assoc}
 use Rattle.std.proofs.Math.ListN.{take-append-drop}
 use Rattle.std.proofs.lemmas.List.{reverse-append}
 use Rattle.std.specs.Prelude.{ℤ, ◌+ℤ◌, ◌&&◌, ◌||◌, ◌==◌, not, if◌then◌else◌}
 use Rattle.std.specs.List.{list_all}
 use Rattle.wf_model.specs.declared.plan.Plan.{Plan}
 use Rattle.wf_model.specs.declared.plan.Phase.{Phase}
-use Rattle.wf_model.specs.declared.plan.Item.TheVariants as item
-use Rattle.wf_model.specs.Plans.{domain_of, item_of, nx, ny, nz, up_to, level_at, point_x, point_y, is_within, is_inside}
+use Rattle.wf_model.specs.Plans.{domain_of, item_of, ny, nz, up_to, level_at, point_x, point_y, is_within, is_inside}
 use Rattle.wf_model.specs.Changes.{in_region, is_phase_level}
-use Rattle.wf_model.specs.Patches.{Split, fine, in_box, in_span, own_box, grown, grown_box, is_own, is_place, region_holds, computes, patches_of, span_list}
+use Rattle.wf_model.specs.Patches.{Split, fine, in_span, is_own, computes, patches_of, span_list}
 use Rattle.wf_model.specs.Cycle.{Turn, cycle_of, before_items}
-use Rattle.wf_model.specs.Marks.{all_fresh, marks_after, is_fresh}
+use Rattle.wf_model.specs.Marks.{all_fresh, marks_after}
 use Rattle.wf_model.specs.Covered.{Asked, all_asked, is_cell_covered, IsReadCovered, walk, looked_back}
 use Rattle.wf_model.specs.Uncovered.{computed_box, is_patch_covered, is_read_covered}
 use Rattle.wf_model.specs.Sound.{IsSoundItem, IsSoundPhase, IsSoundPlan}
 use Rattle.wf_laws.specs.Walks.{ReadTestIsTheRule, third_cycle, ReadsAStaleCell, RefusedReadsAreStale}
-use Rattle.wf_laws.proofs.Bools.{and_left, and_right, and_both, or_left, or_right, split_bool, differ}
+use Rattle.wf_laws.proofs.Bools.{and_left, and_right, and_both, or_left, split_bool, differ}
 use Rattle.wf_laws.proofs.Members.{In, In-range, In-range_out, Contains-In}
 use Rattle.wf_laws.proofs.Cells.{In-span}
 use Rattle.wf_laws.proofs.PhaseStep.{computes-region, region-in}

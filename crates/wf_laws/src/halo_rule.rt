@@ -35,17 +35,14 @@ pub fn covered_in_each_layout()
 /// Over items of a domain's cycle, a cell that is fresh for a patch of one point is fresh for each patch, of any layout, that has that point.
 pub fn fresh_for_the_part_is_fresh_for_the_whole()
     ensures { FreshForThePartIsFreshForTheWhole }
-{
-}
+{}
 
 /// The test of a read, which goes over the points that patches of one point may compute, finds exactly whether the rule holds of the read.
 pub fn read_test_is_the_rule()
     ensures { ReadTestIsTheRule }
-{
-}
+{}
 
 /// A read that the halo check refuses meets a cell that is not fresh: a patch of one point computes a point of the phase, in the third cycle of its domain, and reads such a cell there.
 pub fn refused_reads_are_stale()
     ensures { RefusedReadsAreStale }
-{
-}
+{}
