@@ -23,16 +23,20 @@ use Rattle.wf_laws.proofs.Grows.{walk-left_out, walk-shorter, walk-grows}
 use Rattle.wf_laws.proofs.Rounds.{alike_back, pass_any}
 use Rattle.wf_laws.proofs.Fresh.{asked, fine_of, own_larger, or_take, turn_sound, pair_swaps}
 
+-- the marks over some items are what the walk back over them finds
 pub marks_agree : MarksAgreeWithTheWalk
 marks_agree plan split d p f k j i ts =
     ap (λ (us : List Turn). marks_after plan split d p us all_fresh f k j i) (sym (backwards_is (reverse ts) ∙ reverse-reverse ts)) ∙ marks-walk plan split d p k j i (reverse ts) f
 
+-- a walk loses nothing where forces and feedbacks are left out
 pub left_out : LeavingOutLosesNothing
 left_out plan split d p f k j i ts us out h = walk-left_out plan split d p k j i out f h
 
+-- nor where it looks less far back
 pub less_far : LookingLessFarLosesNothing
 less_far plan split d p f k j i ts us h = walk-shorter plan split d p k j i ts us f h
 
+-- two whole cycles are enough
 pub two_enough : TwoCyclesAreEnough
 two_enough plan split d p f k j i at n sound level h =
     pass_any plan split d p k j i (λ g. (field_of plan g).pair) (cycle_of plan d) at f (pair_swaps plan sound d) (sound.pairs f level).back h n
@@ -65,6 +69,7 @@ asked_here plan d n (item.Phase ph) a is w e h =
     let m = In-map_out (λ (r : Read). record { domain = d; item = n; phase = ph; read = r }) a (reads_of ph.expr) h in
     subst (IsAsked plan) (sym m.2) (record { domain = is; within = w; phase = e; read = m.1 })
 
+-- each read that the rule asks of is one of a phase of the plan
 pub asked_out : (plan : Plan) (a : Asked) → In a (all_asked plan) → IsAsked plan a
 unfolding all_asked item_of
 asked_out plan a h =
@@ -108,6 +113,7 @@ module _ (plan : Plan) (sound : IsSoundPlan plan) (split : Split) (a : Asked) (r
       or_false true b e h = absurd (differ e)
       or_false false b e h = h
 
+-- what is covered in the finest layout is covered in each
 pub each_layout : CoveredInEachLayout
 each_layout plan layout a p k j i sound laid covered h hp =
     let is = asked_out plan a (Contains-In a (all_asked plan) h) in

@@ -59,10 +59,12 @@ pub clean-Ok : (r : RunData) (h : Grids) (n : ℕ) → outcome_of r ≡ Ok h →
 unfolding outcome_of grids_at
 clean-Ok r h n p l = record { clean = λ m k. clean_Ok r 0 (script r) (begin_grids r) h m no_entry p (omega arith) }
 
+-- the places up to the first overflow
 pub clean-Err : (r : RunData) (o : Overflow) (n : ℕ) → outcome_of r ≡ Err o → n ≤ o.place → IsClean r n
 unfolding outcome_of grids_at
 clean-Err r o n p l = record { clean = λ m k. clean_Err r 0 (script r) (begin_grids r) o m no_entry p (omega arith) }
 
+-- the first overflow stands in the script
 pub place-Err : (r : RunData) (o : Overflow) → outcome_of r ≡ Err o → o.place < length (script r)
 unfolding outcome_of
 place-Err r o p = omega (arith, (place_from r 0 (script r) (begin_grids r) o p).1)
@@ -107,14 +109,17 @@ clean_up_to r n h =
       | Err o ↦ λ q past. clean-Err r o n q (from_past n o.place past)
     ]) refl h.before
 
+-- each item takes the grids on
 pub takes_on : ItemTakesTheGridsOn
 unfolding entry_at
 takes_on r n h = grids_at_more r n no_entry h
 
+-- no item before a place that the run comes to overflows
 pub none_before : NoItemBeforeOverflows
 unfolding entry_at
 none_before r n m up h = (clean_up_to r n up).clean m h
 
+-- a run without an overflow ends with its last grids
 pub ends_with : RunEndsWithItsLastGrids
 unfolding outcome_of grids_at
 ends_with r g p = (
@@ -122,6 +127,7 @@ ends_with r g p = (
   record { within = omega arith; before = ap (stands_past (length (script r))) p },
 )
 
+-- the first overflow is that of its item
 pub first_is : FirstOverflowIsItsItems
 unfolding outcome_of grids_at entry_at
 first_is r o p = record {
@@ -130,6 +136,7 @@ first_is r o p = record {
   reached = record { within = omega (arith, place-Err r o p); before = ap (stands_past o.place) p ∙ not_past o.place o.place (omega arith) };
 }
 
+-- a run comes to each earlier place
 pub earlier : EarlierPlacesAreReached
 earlier r m n h up = record {
   within = omega (arith, up.within);

@@ -80,6 +80,7 @@ module _ (plan : Plan) (sound : IsSoundPlan plan) (big : Split) (d q p : ℕ) (r
       or_false true b e h = absurd (differ e)
       or_false false b e h = h
 
+-- what is fresh for the part is fresh for the whole
 pub fresh_whole : FreshForThePartIsFreshForTheWhole
 fresh_whole plan layout d q p f k j i ts sound laid is hq hp part items h =
     grows_fresh plan sound (split_of layout) d q p (room_of plan layout laid d is) part f k j i ts

@@ -46,6 +46,7 @@ table_once plan layout e n to c room h =
 the_one_by : (n p : ℕ) (P Q : ℕ → Type 0) → ((q : ℕ) → P q → Q q) → ((q : ℕ) → Q q → P q) → IsTheOne n P p → IsTheOne n Q p
 the_one_by n p P Q to from h = record { below = h.below; passes = to p h.passes; alone = λ q hq t. h.alone q hq (from q t) }
 
+-- each fetched cell comes once
 pub fetched_once : FetchedCellsComeOnce
 fetched_once plan layout e n to c laid is act h =
     the_one_by (layout.nproc_x * layout.nproc_y) (cell_owner plan (split_of layout) e.domain c) (λ q. In c (carried plan (split_of layout) e (Table n) q to)) (Carries plan (split_of layout) e to c)
@@ -57,6 +58,7 @@ carried_fetched : (plan : Plan) (split : Split) (e : Entry) (n from to : ℕ) (c
 unfolding carried
 carried_fetched plan split e n from to c h = (In-filter_out (λ (x : Cell). cell_owner plan split e.domain x == from) c (fetched_cells plan split e.domain (item_of plan n) to) h).0
 
+-- only fetched cells come
 pub fetched_alone : MessagesCarryFetchedCells
 fetched_alone plan split e n from to c act h =
     In-Contains c (fetched_cells plan split e.domain (item_of plan n) to)
@@ -72,6 +74,7 @@ asked_carried plan split e Feedback room to c level k inside h = among_owner pla
 asked_carried plan split e (Table n) room to c level k inside h = absurd h
 asked_carried plan split e (Emit s) room to c level k inside h = absurd h
 
+-- each point that is asked for comes once
 pub asked_once : AskedPointsComeOnce
 asked_once plan layout e to c laid is level k inside h =
     let d : ℕ = sender_of plan e e.act in
@@ -139,11 +142,13 @@ module _ (r : RunData) (layout : Layout) (a : IsAccepted r layout) (n : ℕ) (wi
 map_none : {X Y : Type 0} (f g : X → Y) (xs : List X) → xs ≡ [] → map f xs ≡ map g xs
 map_none f g xs e = ap (map f) e ∙ sym (ap (map g) e)
 
+-- senders send the messages' numbers
 pub senders_send : SendersSendTheNumbers
 unfolding message_numbers
 senders_send r layout n from to a within hq =
     ⊎_elim (λ is. numbers_sent r layout a n within from to hq is) (λ none. map_none _ _ _ none) (sender_domain r layout a.sound a.laid a.covered n within from to)
 
+-- which are the grids' up to the first overflow
 pub carry_grids : MessagesCarryTheGridsNumbers
 carry_grids r layout n from to a within up hq =
     ⊎_elim (λ is. grids_sent r layout a n within from to hq up is) (λ none. map_none _ _ _ none) (sender_domain r layout a.sound a.laid a.covered n within from to)

@@ -48,14 +48,17 @@ none_or : {X : Type 0} (o p : Option X) → o ≡ None → option_or o p ≡ p
 none_or o p e = ap (λ (x : _). option_or x p) e
 
 module _ (r : RunData) (split : Split) (e : Entry) (g : Grids) (ms : Memories) (p : ℕ) where
+  -- all that comes to the patch, by the entry's act
   abbrev pub mail_by : Act → Mail
   mail_by act =
       flat_map (λ q. zip (carried r.plan split e act q p) (map (memory_point r.plan (sender_of r.plan e act) (ms (sender_of r.plan e act) q)) (carried r.plan split e act q p)))
       (filter (λ q. has_cells (carried r.plan split e act q p)) (patches_of split))
 
+  -- the least point that fails in what it computes
   abbrev pub computed_by : Act → Option Spot
   computed_by act = least_failure r.plan split e.domain p (computing r split e act p (ms e.domain p))
 
+  -- and in what it makes of its mail
   abbrev pub taken_by : Act → Option Spot
   taken_by act = least_failure r.plan split (receiver_of r.plan e act) p (taking r split e act p (mail_by act) (ms (receiver_of r.plan e act) p))
 

@@ -8,12 +8,15 @@ use Rattle.wf_laws.specs.Outcomes.{OutcomeGoesItemByItem, OutcomeOfItemsAfterOth
 use Rattle.wf_laws.proofs.Members.{In-filter, In-filter_out, In-Contains, Contains-In}
 use Rattle.wf_laws.proofs.Runs.{outcome_from-next, outcome_from-stop, outcome_from-append, frames_written-Ok}
 
+-- the outcome item by item
 pub item_by_item : OutcomeGoesItemByItem
 item_by_item r n e es g = (λ h. outcome_from-next r n e es g h, λ p h. outcome_from-stop r n e es g p h)
 
+-- the outcome of items after others
 pub after_others : OutcomeOfItemsAfterOthers
 after_others r n es fs g h p = outcome_from-append r n es fs g h p
 
+-- all frames of a run without an overflow are written
 pub all_written : AllFramesAreWritten
 all_written r g p = frames_written-Ok r g p
 
@@ -23,6 +26,7 @@ before_is m n h = grind arith
 is_before : (m n : ℕ) → m < n → nat_lt m n ≡ true
 is_before m n h = grind arith
 
+-- else those before the first overflow
 pub written_before : FramesAreWrittenBeforeTheOverflow
 written_before r o f p =
     let written : frames_written r ≡ filter (λ (x : Frame). nat_lt x.place o.place) (frames_of r) = ap (λ (q : _). up_to_overflow q (frames_of r)) p in (

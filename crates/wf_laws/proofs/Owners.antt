@@ -48,17 +48,20 @@ module _ (plan : Plan) (split : Split) (d : ℕ) (room : IsRoom plan split d) wh
       same_block (p % split.in_x) (q % split.in_x) split.in_x lx (nx plan d f - lx) i room.some_x (patch_x plan split d room p) (patch_x plan split d room q) (and_right _ _ a) (and_right _ _ b) in
       sym (mod-add-div' p split.in_x) ∙ (λ n. x n + y n * split.in_x) ∙ mod-add-div' q split.in_x
 
+-- each place lies in one block
 pub disjoint_complete : BlocksAreDisjointAndComplete
 disjoint_complete n len more c hn hl low high =
     let r = owner_span n len more c hn hl low high in
     (r.0, record { below = r.1; passes = r.2; alone = λ q hq t. same_block q r.0 n len more (pos c) hn hq r.1 t r.2 })
 
+-- each point has one owner
 pub each_owner : EachPointHasOneOwner
 each_owner plan layout d f j i laid is hj hi =
     let room = room_of plan layout laid d is in
     let o = owner_owns plan (split_of layout) d room f j i hj.0 hj.1 hi.0 hi.1 in
     record { below = o.0; passes = o.1; alone = λ q hq t. one_owner plan (split_of layout) d room q _ f (pos j) (pos i) hq o.0 t o.1 }
 
+-- own cells are points, and memory cells
 pub own_points : OwnCellsArePoints
 own_points plan layout d p c laid is hp own =
     let room = room_of plan layout laid d is in (

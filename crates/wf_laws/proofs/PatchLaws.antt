@@ -16,22 +16,27 @@ use Rattle.wf_laws.proofs.Right.{AreRight, read_reaches, computed_value}
 use Rattle.wf_laws.proofs.AllDomains.{rooms}
 use Rattle.wf_laws.proofs.WholeRun.{stand, own_right, fresh_right, domain_right, memory_is, phase_ready}
 
+-- no patch stops
 pub no_stop : NoPatchStops
 no_stop r layout n d p a up is hp =
     let s = (stand r layout a.sound a.laid a.covered n up.within (clean_up_to r n up)).patches d p is.0 (omega (arith, is.1)) hp in
     record { done = s.count ∙ count_is r d n; going = s.going }
 
+-- the mail is of earlier places
 pub mail_before : MailIsOfEarlierPlaces
 mail_before r layout n l a up i = (stand r layout a.sound a.laid a.covered n up.within (clean_up_to r n up)).mail l (Contains-In l _ i)
 
+-- own cells hold the grids' numbers
 pub own_hold : OwnCellsHoldTheGrids
 own_hold r layout n d p c a up is hp own =
     own_right r layout a.sound a.laid a.covered d n p c.field c.k c.j c.i is up.within (clean_up_to r n up) hp own.level.0 own.level.1 own.own
 
+-- fresh cells do
 pub fresh_hold : FreshCellsHoldTheGrids
 fresh_hold r layout n d p c a up is hp within fresh =
     fresh_right r layout a.sound a.laid a.covered d n p c.field c.k c.j c.i is up.within (clean_up_to r n up) hp within.level.0 within.level.1 within.within fresh
 
+-- what a phase reads is fresh
 pub read_fresh_cells : PhasesReadFreshCells
 unfolding entry_at
 read_fresh_cells r layout n p ph rd k j i a hp at t c =
@@ -48,6 +53,7 @@ memory_right r layout a n d p up is hp =
     (sym (memory_is r layout a.sound a.laid a.covered d n p is up.within (clean_up_to r n up) hp))
     ((domain_right r layout a.sound a.laid a.covered d n is).right p hp)
 
+-- a patch computes the grids' values
 pub computes_values : PatchesComputeTheGridsValues
 unfolding entry_at
 computes_values r layout n p ph k j i a up hp at c =

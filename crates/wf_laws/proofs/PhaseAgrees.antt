@@ -24,6 +24,7 @@ computes-own : (plan : Plan) (split : Split) (d : ℕ) (room : IsRoom plan split
 unfolding computes region_holds
 computes-own plan split d room p hp ph k j i own region = and_both _ _ (own_grown plan split d p ph.writes ph.extend j i own) (and_both _ _ (own-place plan split d room p ph.writes j i hp own) region)
 
+-- a phase on a patch agrees with the phase on the grids
 pub phase_agrees : (r : RunData) (split : Split) (d : ℕ) (room : IsRoom r.plan split d) (is : IsDomain r.plan d) (p step : ℕ) → p < split.in_x * split.in_y → (ph : Phase) (marks : Marks) (g : Grids) (mem : Memory) → IsSoundPhase r.plan ph →
     AreRight r.plan split d p marks g mem → AreFresh r.plan split d p ph marks → Agrees r.plan split d p (phase_setting r split d p step ph mem) (phase_change r.plan r.answers g d step ph)
 phase_agrees r split d room is p step hp ph marks g mem sound right fresh = record {

@@ -157,8 +157,10 @@ module _ (plan : Plan) (a : Asked) (sound : IsSoundPlan plan) (is : IsAsked plan
       open_test : is_read_covered plan a ≡ false → list_all (is_patch_covered plan a) (patches_of (fine plan a.domain)) ≡ false
       open_test h = h
 
+-- the test of a read is the rule
 pub read_test : ReadTestIsTheRule
 read_test plan a sound h = let is = asked_out plan a (Contains-In a (all_asked plan) h) in (test_rule plan a sound is, rule_test plan a sound is)
 
+-- a refused read meets a stale cell
 pub refused_reads : RefusedReadsAreStale
 refused_reads plan a sound h refused = refused_stale plan a sound (asked_out plan a (Contains-In a (all_asked plan) h)) refused

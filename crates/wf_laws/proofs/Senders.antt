@@ -68,6 +68,7 @@ module _ (plan : Plan) (split : Split) (d : ℕ) (room : IsRoom plan split d) wh
       let e : IsCellIn plan b.0 (own_box plan split d from b.0) c = In-cells_out plan b.0 (own_box plan split d from b.0) c b.2 in
       (subst (λ (f : ℕ). in_box (own_box plan split d from f) c.j c.i ≡ true) (sym e.field) e.box, e.low, subst (λ (f : ℕ). c.k ≤ nz plan f) (sym e.field) e.high)
 
+  -- an own cell that is asked for is carried
   pub among_in : (from : ℕ) (asked : List Cell) (c : Cell) → IsLevel plan c.field → 1 ≤ c.k → c.k ≤ nz plan c.field → In c asked → is_own plan split d from c.field c.j c.i ≡ true →
       In c (owned_among plan split d from asked)
   unfolding is_own

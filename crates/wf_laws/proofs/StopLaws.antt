@@ -144,21 +144,26 @@ module _ (r : RunData) (layout : Layout) (a : IsAccepted r layout) (n : ℕ) (up
       (In-range (owner_of r.plan (split_of layout) (domain_at r n) x.field x.j x.i) 0 (layout.nproc_x * layout.nproc_y) (omega arith) (omega (arith, o.0)))
       (ap (is_named x) o.1 ∙ same_spot-same x))
 
+-- what a patch names overflows
 pub named_points : NamedPointsOverflow
 named_points r layout n p x a up within hp h =
     let o = named_overflows r layout a n up within p x hp h in (In-Contains x (spots r.plan (domain_at r n)) o.0, o.1)
 
+-- the owner names the least point
 pub owners_name : OwnersNameTheLeastPoint
 owners_name r layout n x a up within over = (owner_named r layout a n up within x over).1
 
+-- the least that is named is the overflow
 pub least_overflow : LeastNamedIsTheOverflow
 least_overflow r layout n a up within = least_is r layout a n up within (overflow_in r.plan (change_at r n)) refl
 
+-- no patch names a point before the first overflow
 pub none_named_before : NoPatchNamesAPointBefore
 none_named_before r layout n m p a up h hp =
     none_here r layout a m (earlier r m n (omega (arith, h)) up) (omega (arith, h, up.within))
     (overflow-none r (entry_at r m) (grids_at r m) (none_before r n m up h)) p hp
 
+-- the outcome is the least that is named
 pub outcome_least : OutcomeIsTheLeastNamed
 unfolding overflow_of
 outcome_least r layout o a p =

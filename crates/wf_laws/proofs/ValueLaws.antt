@@ -17,9 +17,11 @@ AllReads-All : (P : Read → Type 0) (rs : List Read) → All P rs → AllReads 
 AllReads-All P [] h = tt
 AllReads-All P (r ∷ rs) h = (All-head P r rs h, AllReads-All P rs (All-tail P r rs h))
 
+-- a value depends on its reads alone
 pub depends_on_reads : ValueDependsOnItsReads
 depends_on_reads m x s t h = ap (λ o. and_then o in_i32) (number_of-same m s t h.i h.j h.k h.step x (AllReads-All _ (reads_of x) h.reads))
 
+-- a level's list has each point once
 pub each_point_once : ListHasEachPointOnce
 each_point_once plan d f g = length-listed (nz plan f) (ny plan d f) (nx plan d f) (g d f)
 
@@ -27,6 +29,7 @@ each_point_once plan d f g = length-listed (nz plan f) (ny plan d f) (nx plan d 
 place_is : (a b c ys xs : ℕ) → (a * ys + b) * xs + c ≡ a * (ys * xs) + (b * xs + c)
 place_is a b c ys xs = omega (arith, add-mul (a * ys) b xs, mul_assoc a ys xs)
 
+-- in order
 pub in_order : ListHasPointsInOrder
 in_order plan d f g k j i hk hj hi =
     ap (λ (m : ℕ). slice_index_or (level_list plan d f g) m (pos 0)) (place_is (k - 1) (j - 1) (i - 1) (ny plan d f) (nx plan d f))
@@ -36,6 +39,7 @@ in_order plan d f g k j i hk hj hi =
     back : (a : ℕ) → 1 ≤ a → 1 + (a - 1) ≡ a
     back a h = omega arith
 
+-- and gives the grid back
 pub grid_back : GridOfTheListIsTheGrid
 unfolding grid_from
 grid_back plan d f g k j i hk hj hi = in_order plan d f g k j i hk hj hi
