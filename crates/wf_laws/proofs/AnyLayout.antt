@@ -1,5 +1,5 @@
 -- What the halo rule finds covered in the finest layout is covered in each layout.
-use Rattle.std.proofs.Common.{◌≡◌, ⊎_elim, ℕ, suc, ◌+◌, ◌*◌, ◌<◌, Bool, true, false, List, [], ◌∷◌, reverse, length, get_or, sym, ap, subst, ◌∙◌, arith}
+use Rattle.std.proofs.Common.{◌≡◌, ⊎_elim, ℕ, suc, ◌+◌, ◌*◌, ◌<◌, true, List, [], ◌∷◌, reverse, length, get_or, sym, ap, subst, ◌∙◌, arith}
 use Rattle.std.proofs.lemmas.List.{reverse-reverse}
 use Rattle.std.specs.Prelude.{ℤ, ◌+ℤ◌, ◌||◌, not, flat_map}
 use Rattle.std.specs.List.{enumerate_from}
@@ -14,7 +14,7 @@ use Rattle.wf_model.specs.Marks.{all_fresh, marks_after}
 use Rattle.wf_model.specs.Covered.{Asked, asked_of, all_asked, is_cell_covered, IsReadCovered, IsCovered, walk, looked_back}
 use Rattle.wf_model.specs.Sound.{IsDomain, IsSoundPlan}
 use Rattle.wf_laws.specs.Walks.{MarksAgreeWithTheWalk, LeavingOutLosesNothing, LookingLessFarLosesNothing, TwoCyclesAreEnough, CoveredInEachLayout}
-use Rattle.wf_laws.proofs.Bools.{or_left, or_right, differ, split_bool}
+use Rattle.wf_laws.proofs.Bools.{or_left, or_right, split_bool, or_else}
 use Rattle.wf_laws.proofs.Members.{In, In-map_out, In-flat_map_out, In-range_out, All-In, Contains-In}
 use Rattle.wf_laws.proofs.Places.{IsRoom, room_of}
 use Rattle.wf_laws.proofs.Boxes.{grows}
@@ -106,12 +106,8 @@ module _ (plan : Plan) (sound : IsSoundPlan plan) (split : Split) (a : Asked) (r
       (λ o. ⊎_elim (or_left _ _) (or_right _ _)
       (walk-grows plan (fine plan d) split d q.0 p l j' i' (grows plan split d p q.0 q.2 q.3 l j' i') (looked_back (cycle_of plan d) (length (before_items d) + a.item))
       (alike_back plan (fine plan d) split d q.0 p l j' i' (cycle_of plan d) (length (before_items d) + a.item) (λ x u. (turn_sound plan sound split d room (fine plan d) q.0 p l j' i' x u).1)) rd.field
-      (or_false _ _ o or)))
+      (or_else _ _ o or)))
       (split_bool (is_own plan (fine plan d) d q.0 rd.field j' i'))
-    where
-      or_false : (a b : Bool) → a ≡ false → (a || b) ≡ true → b ≡ true
-      or_false true b e h = absurd (differ e)
-      or_false false b e h = h
 
 -- what is covered in the finest layout is covered in each
 pub each_layout : CoveredInEachLayout

@@ -1,5 +1,5 @@
 -- Truth values: their parts, and the tests of equality and of choice.
-use Rattle.std.proofs.Common.{◌≡◌, ◌⊎◌, inl, inr, ℕ, ◌<◌, ◌≤◌, Bool, true, false, refl, arith}
+use Rattle.std.proofs.Common.{◌≡◌, ◌⊎◌, inl, inr, ⊎_elim, ℕ, ◌<◌, ◌≤◌, Bool, true, false, refl, sym, arith}
 use Rattle.std.specs.Prelude.{◌&&◌, ◌||◌, ◌==◌, if◌then◌else◌}
 
 -- a truth value is true or false
@@ -68,3 +68,16 @@ same_number n = grind arith
 -- at most is equal or less
 pub equal_or_less : (m n : ℕ) → m ≤ n → (m ≡ n) ⊎ (m < n)
 equal_or_less m n h = grind arith
+
+-- the second of two holds, where the first does not
+pub or_else : (a b : Bool) → a ≡ false → (a || b) ≡ true → b ≡ true
+or_else true b e h = absurd (differ e)
+or_else false b e h = h
+
+-- unlike numbers do not pass the test
+pub unlike : (d x : ℕ) → (x ≡ d → ⊥) → (d == x) ≡ false
+unlike d x h = ⊎_elim (λ b. absurd (h (sym (equal_of d x b)))) (λ b. b) (split_bool (d == x))
+
+-- numbers are equal or not
+pub equal_or_not : (m n : ℕ) → (m ≡ n) ⊎ (m ≡ n → ⊥)
+equal_or_not m n = grind arith

@@ -1,7 +1,7 @@
 -- What is fresh for a patch of one point is fresh for each patch that it is part of.
-use Rattle.std.proofs.Common.{◌≡◌, ⊎_elim, ℕ, ◌+◌, ◌-◌, ◌*◌, ◌/◌, ◌%◌, ◌≤◌, ◌<◌, Bool, true, false, List, reverse, sym, ◌∙◌, arith}
+use Rattle.std.proofs.Common.{◌≡◌, ⊎_elim, ℕ, ◌+◌, ◌-◌, ◌*◌, ◌/◌, ◌%◌, ◌≤◌, ◌<◌, true, List, reverse, sym, ◌∙◌, arith}
 use Rattle.std.proofs.lemmas.Int.{ints}
-use Rattle.std.specs.Prelude.{ℤ, pos, ◌-ℤ◌, ◌≤ℤ◌, ◌<ℤ◌, ◌||◌, ◌==◌, if◌then◌else◌}
+use Rattle.std.specs.Prelude.{ℤ, pos, ◌-ℤ◌, ◌≤ℤ◌, ◌<ℤ◌, ◌==◌, if◌then◌else◌}
 use Rattle.std.specs.List.{Contains}
 use Rattle.wf_model.specs.declared.plan.Plan.{Plan}
 use Rattle.wf_model.specs.Plans.{domain_of, nx, ny}
@@ -10,7 +10,7 @@ use Rattle.wf_model.specs.Cycle.{Turn, cycle_of}
 use Rattle.wf_model.specs.Marks.{all_fresh, marks_after, is_fresh}
 use Rattle.wf_model.specs.Sound.{IsSoundPlan}
 use Rattle.wf_laws.specs.Walks.{IsPartOf, FreshForThePartIsFreshForTheWhole}
-use Rattle.wf_laws.proofs.Bools.{and_left, and_right, and_both, or_left, or_right, split_bool, differ}
+use Rattle.wf_laws.proofs.Bools.{and_left, and_right, and_both, or_left, or_right, split_bool, or_else}
 use Rattle.wf_laws.proofs.Members.{In, All-In, Contains-In}
 use Rattle.wf_laws.proofs.Spans.{span-in, span-low, span-high, block_some}
 use Rattle.wf_laws.proofs.Places.{IsRoom, room_of}
@@ -73,12 +73,8 @@ module _ (plan : Plan) (sound : IsSoundPlan plan) (big : Split) (d q p : ℕ) (r
       let marked = marks_agree plan big d p f k j i ts in
       ⊎_elim (λ own. or_left _ _ (part f j i own))
       (λ own. ⊎_elim (or_left _ _) (λ w. or_right (is_own plan big d p f j i) _ (marked ∙ w))
-      (walk-grows plan (fine plan d) big d q p k j i (grows plan big d p q within_x within_y k j i) (reverse ts) alike f (sym mark ∙ or_false _ _ own h)))
+      (walk-grows plan (fine plan d) big d q p k j i (grows plan big d p q within_x within_y k j i) (reverse ts) alike f (sym mark ∙ or_else _ _ own h)))
       (split_bool (is_own plan (fine plan d) d q f j i))
-    where
-      or_false : (a b : Bool) → a ≡ false → (a || b) ≡ true → b ≡ true
-      or_false true b e h = absurd (differ e)
-      or_false false b e h = h
 
 -- what is fresh for the part is fresh for the whole
 pub fresh_whole : FreshForThePartIsFreshForTheWhole
