@@ -59,7 +59,7 @@ module _ (r : RunData) (layout : Layout) (a : IsAccepted r layout) (n : ℕ) (up
   here = get_or (script r) n no_entry
 
   -- the fresh cells of all patches hold the grids' numbers in the lockstep run
-  each_now : EachRight r (split_of layout) a.sound a.covered (rooms r layout a.sound a.laid a.covered) (turns r layout a.sound a.laid a.covered n) (grids_at r n) (memory_at r layout n)
+  pub each_now : EachRight r (split_of layout) a.sound a.covered (rooms r layout a.sound a.laid a.covered) (turns r layout a.sound a.laid a.covered n) (grids_at r n) (memory_at r layout n)
   each_now = record {
     all = λ d is. record {
       right = λ p hp.
