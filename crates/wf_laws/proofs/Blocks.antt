@@ -1,8 +1,6 @@
--- Blocks cover a length without overlap; the files after one call more.
-use Rattle.std.proofs.Common.{◌≡◌, ℕ, suc, ◌+◌, ◌-◌, ◌*◌, ◌/◌, ◌%◌, ◌<◌, ◌≤◌, List, length, get_or, ap, arith}
+-- Blocks of a length follow one another, and each place lies in one.
+use Rattle.std.proofs.Common.{◌≡◌, ℕ, suc, ◌+◌, ◌-◌, ◌*◌, ◌/◌, ◌%◌, ◌<◌, ◌≤◌, ap, arith}
 use Rattle.std.proofs.Math.Nat.{div-lt_iff_lt-mul, le-div_iff_mul-le, mod-add-div', mul_comm, mod-lt, div-mul-le_self, suc-mul, add-mul, mul-le-mul_right}
-use Rattle.std.proofs.lemmas.List.Sums.{fold_more}
-use Rattle.wf_model.specs.Files.{StoreCall, Files, after_call, files_after}
 
 lt_suc : {a b : ℕ} → a < suc b → a ≤ b
 lt_suc h = omega arith
@@ -31,9 +29,3 @@ blocks_rise n len p q hn h =
     let less : suc p * len ≤ q * len = mul-le-mul_right len h in
     let one : (p + 1) * len ≡ suc p * len = ap (λ (k : ℕ). k * len) (omega arith) in
     (le-div_iff_mul-le hn).1 (omega (arith, div-mul-le_self ((p + 1) * len) n, less, one))
-
--- one call more
-pub files_after_more : (files : Files) (calls : List StoreCall) (n : ℕ) (c : StoreCall) → n < length calls →
-    files_after files calls (n + 1) ≡ after_call (files_after files calls n) (get_or calls n c)
-unfolding files_after
-files_after_more files calls n c h = fold_more after_call files calls n c h

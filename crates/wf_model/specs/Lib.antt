@@ -68,3 +68,5 @@ pub mod DemoCase
 pub mod GenCase
 pub mod Demo
 pub mod ListLends
+pub mod Turns
+pub mod Agreement
