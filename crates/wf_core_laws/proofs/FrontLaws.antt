@@ -1,16 +1,12 @@
 -- What each patch is before a place of the script, by its own halves and what the others are there.
-use Rattle.std.proofs.Common.{◌≡◌, inl, inr, ℕ, zero, suc, ◌+◌, ◌<◌, ◌≤◌, ◌||◌, Bool, true, false, List, [], ◌∷◌, length, map, Option, Some, None, refl, ap, sym, ◌∙◌, arith}
-use Rattle.std.specs.Prelude.{slice_get, flat_map, is_some, ℤ}
-use Rattle.std.specs.List.{list_any, zip}
+use Rattle.std.proofs.Common.{◌≡◌, inl, inr, ℕ, zero, suc, ◌+◌, ◌<◌, ◌≤◌, Bool, true, false, List, [], ◌∷◌, length, Some, None, refl, ap, sym, ◌∙◌, arith}
+use Rattle.std.specs.Prelude.{slice_get}
 use Rattle.wf_model.specs.declared.layout.Layout.{Layout}
 use Rattle.wf_model.specs.declared.script.Entry.{Entry}
 use Rattle.wf_model.specs.Outcome.{RunData, script}
-use Rattle.wf_model.specs.Patches.{split_of}
-use Rattle.wf_model.specs.Exchange.{Letter, sender_of, carried, senders_to}
-use Rattle.wf_model.specs.PatchEffect.{Memory, Setting, Mail, sets_nothing, after_setting, taking, computing, least_failure}
+use Rattle.wf_model.specs.PatchEffect.{sets_nothing, after_setting}
 use Rattle.wf_model.specs.Halves.{Half, acts, sends, takes, posts, Due, act_halves, halves_of, due_after}
-use Rattle.wf_model.specs.Core.{begin_patch, memory_point}
-use Rattle.wf_model.specs.Front.{halves_in, last_half, Stand, Stands, front, half_effect, halves_before, place_effect, stand_after, unless_stopped}
+use Rattle.wf_model.specs.Front.{last_half, Stand, Stands, front, half_effect, halves_before, place_effect, stand_after, unless_stopped}
 use Rattle.wf_core_laws.proofs.Places.{halves_in-more, halves_in-past, half-at, half-stands, HalfPlace, due_here, lt_or_le}
 use Rattle.wf_core_laws.proofs.HalvesAt.{is_quiet}
 use Rattle.std.proofs.lemmas.Option.{slice_get_within}
