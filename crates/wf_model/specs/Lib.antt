@@ -27,6 +27,7 @@ pub mod Halves
 pub mod Exchange
 pub mod PatchEffect
 pub mod Core
+pub mod Front
 pub mod Replay
 pub mod Lockstep
 pub mod Held

@@ -1,0 +1,69 @@
+-- What holds of every list of enabled events, whatever their order.
+use Rattle.std.specs.Prelude.{◌≡◌, ℕ, ◌≤◌, List, length, map, flat_map, take, All, Some, Err}
+use Rattle.wf_model.specs.declared.layout.Layout.{Layout}
+use Rattle.wf_model.specs.declared.event.Event.{Event}
+use Rattle.wf_model.specs.Plans.{domains_of}
+use Rattle.wf_model.specs.Outcome.{RunData, Overflow, outcome_of}
+use Rattle.wf_model.specs.Frames.{frames_of, frames_written}
+use Rattle.wf_model.specs.Patches.{split_of, patches_of}
+use Rattle.wf_model.specs.Core.{CoreState}
+use Rattle.wf_model.specs.Replay.{replay, replay_from, IsEnabled, IsReachable, IsEnd, IsFull}
+use Rattle.wf_model.specs.Lockstep.{memory_line, memory_report}
+use Rattle.wf_core_laws.specs.Patches.{IsPatch, IsCanonical}
+use Rattle.wf_core_laws.specs.Carried.{IsLockstepLetter, IsLockstepPiece}
+use Rattle.wf_core_laws.specs.Ends.{WritesTheFirst, IsFinished, FollowsLockstep, AreAlike}
+use Rattle.wf_core_laws.specs.Stops.{IsFirstStop, IsStoppedAt}
+use Rattle.wf_core_laws.specs.EventCount.{most_events}
+
+-- the plan has a domain
+abbrev pub HasDomain : RunData → Type 0
+HasDomain r = 1 ≤ length r.plan.domains
+
+-- every state that a list of enabled events leads to is in canonical form
+abbrev pub EveryReachableStateIsCanonical : Type 0
+EveryReachableStateIsCanonical = (r : RunData) (layout : Layout) (s : CoreState) → IsReachable r layout s → IsCanonical r layout s
+
+-- in it each patch has the memory and the stop of the lockstep run after as many of its own halves
+abbrev pub PatchesFollowTheLockstepRun : Type 0
+PatchesFollowTheLockstepRun =
+    (r : RunData) (layout : Layout) (s : CoreState) (d p : ℕ) → HasDomain r → IsReachable r layout s → IsPatch r.plan layout d p → FollowsLockstep r layout s d p
+
+-- all letters in the mail carry the lockstep run's numbers
+abbrev pub LettersCarryTheLockstepRunsNumbers : Type 0
+LettersCarryTheLockstepRunsNumbers =
+    (r : RunData) (layout : Layout) (s : CoreState) → HasDomain r → IsReachable r layout s → All (IsLockstepLetter r layout) s.mail
+
+-- and so do all pieces, posted or gathered
+abbrev pub PiecesCarryTheLockstepRunsNumbers : Type 0
+PiecesCarryTheLockstepRunsNumbers =
+    (r : RunData) (layout : Layout) (s : CoreState) → HasDomain r → IsReachable r layout s →
+    All (IsLockstepPiece r layout) s.pieces × All (IsLockstepPiece r layout) s.gathered
+
+-- a state with no event enabled is an end
+abbrev pub NoStateIsStuck : Type 0
+NoStateIsStuck = (r : RunData) (layout : Layout) (s : CoreState) → HasDomain r → IsReachable r layout s → IsEnd r layout s → IsFinished r layout s
+
+-- the frames written are the first of the script's, and none stands at a stop or past one
+abbrev pub FramesWrittenAreTheFirst : Type 0
+FramesWrittenAreTheFirst = (r : RunData) (layout : Layout) (s : CoreState) → IsReachable r layout s → WritesTheFirst r layout s
+
+-- an event that is enabled stays enabled through all others, in any number
+abbrev pub EnabledEventsStayEnabled : Type 0
+EnabledEventsStayEnabled =
+    (r : RunData) (layout : Layout) (s t : CoreState) (es : List Event) (e : Event) → IsReachable r layout s → IsEnabled r layout s e →
+    replay_from r layout s es ≡ Some t → All (λ x. x ≡ e → ⊥) es → IsEnabled r layout t e
+
+-- two full lists end alike
+abbrev pub FullListsEndAlike : Type 0
+FullListsEndAlike =
+    (r : RunData) (layout : Layout) (es fs : List Event) → HasDomain r → (f : IsFull r layout es) → (g : IsFull r layout fs) → AreAlike r layout f.0 g.0
+
+-- with the memories of the memory report
+abbrev pub FullListsEndWithTheReport : Type 0
+FullListsEndWithTheReport =
+    (r : RunData) (layout : Layout) (es : List Event) → HasDomain r → (f : IsFull r layout es) →
+    flat_map (λ d. map (memory_line r layout f.0 d) (patches_of (split_of layout))) (domains_of r.plan) ≡ memory_report r layout
+
+-- a list of enabled events is no longer than the most events that there can be
+abbrev pub ListsAreBounded : Type 0
+ListsAreBounded = (r : RunData) (layout : Layout) (es : List Event) (s : CoreState) → replay r layout es ≡ Some s → length es ≤ most_events r layout

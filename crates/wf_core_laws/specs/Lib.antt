@@ -1,0 +1,7 @@
+pub mod Patches
+pub mod Front
+pub mod Carried
+pub mod Ends
+pub mod Stops
+pub mod EventCount
+pub mod EveryList

@@ -1,0 +1,27 @@
+//! What holds of every state that a list of enabled events leads to.
+ghost use Rattle.wf_core_laws.specs.EveryList.{EveryReachableStateIsCanonical, PatchesFollowTheLockstepRun, LettersCarryTheLockstepRunsNumbers, PiecesCarryTheLockstepRunsNumbers, FramesWrittenAreTheFirst};
+
+/// How many halves each patch has done and which patches are stopped tells all memories and all mail of a state.
+pub fn every_reachable_state_is_canonical()
+    ensures { EveryReachableStateIsCanonical }
+{}
+
+/// Each patch has the memory and the stop that it has in the lockstep run after as many of its own halves.
+pub fn patches_follow_the_lockstep_run()
+    ensures { PatchesFollowTheLockstepRun }
+{}
+
+/// Each letter in the mail is a message of the run, with the numbers that its sender has in the lockstep run before its place.
+pub fn letters_carry_the_lockstep_runs_numbers()
+    ensures { LettersCarryTheLockstepRunsNumbers }
+{}
+
+/// Each piece, posted or gathered, is of a variable of a frame, with the own numbers that its patch has in the lockstep run before the frame's place.
+pub fn pieces_carry_the_lockstep_runs_numbers()
+    ensures { PiecesCarryTheLockstepRunsNumbers }
+{}
+
+/// The frames written are the first of the script's, and none stands at a stop or past one.
+pub fn frames_written_are_the_first()
+    ensures { FramesWrittenAreTheFirst }
+{}
