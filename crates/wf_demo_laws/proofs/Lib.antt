@@ -1,1 +1,5 @@
 pub mod Script
+pub mod Values
+pub mod Phase
+pub mod Parts
+pub mod Grids
