@@ -47,9 +47,13 @@ module _ (nx ny steps : ℕ) (m : Answers) where
   step_goes : (g : Grids) (n : ℕ) → IsDemoGrid nx ny n g → (es : List Entry) → GoesThrough run es (after_step g n) → GoesThrough run (step_entries n ++ es) g
   unfolding GoesThrough after_step
   step_goes g n at es rest =
-      let halo = grids_after run g (entry 1 (n + 1) (60 * n) (Table 0)) in
-      (halo_goes nx ny steps m g n, (phase_goes nx ny steps m halo n (λ j i a b c d. halo_keeps nx ny steps m g n 1 j i ∙ at j i a b c d),
-      (frame_goes nx ny steps m (grids_after run halo (entry 1 (n + 1) (60 * n) (Table 1))) (n + 1), rest)))
+      let halo = grids_after run g (entry 1 (n + 1) (60 * n) (Table 0)) in (
+        halo_goes nx ny steps m g n,
+        (
+          phase_goes nx ny steps m halo n (λ j i a b c d. halo_keeps nx ny steps m g n 1 j i ∙ at j i a b c d),
+          (frame_goes nx ny steps m (grids_after run halo (entry 1 (n + 1) (60 * n) (Table 1))) (n + 1), rest),
+        ),
+      )
 
   step_steps : (g : Grids) (n : ℕ) → IsDemoGrid nx ny n g → IsDemoGrid nx ny (n + 1) (after_step g n)
   unfolding after_step

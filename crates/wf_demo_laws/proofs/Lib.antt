@@ -3,3 +3,5 @@ pub mod Values
 pub mod Phase
 pub mod Parts
 pub mod Grids
+pub mod Frames
+pub mod Writes

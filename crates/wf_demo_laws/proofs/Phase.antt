@@ -93,10 +93,19 @@ module _ (nx ny steps : ℕ) (m : Answers) where
       let column : i + 0 ≡ i = omega arith in
       let west : unsigned_abs (pos i +ℤ negsuc 0) ≡ i - 1 = omega (arith, ints) in
       let south : unsigned_abs (pos j +ℤ negsuc 0) ≡ j - 1 = omega (arith, ints) in
-      rw (demo_number m (sight_at (demo_plan nx ny steps) g 1 step k j i), row, column, west, south, at j i (omega arith) (omega arith) (omega arith) (omega arith),
-      at j (i - 1) (omega arith) (omega arith) (omega arith) (omega arith), at j (i + 1) (omega arith) (omega arith) (omega arith) (omega arith),
-      at (j - 1) i (omega arith) (omega arith) (omega arith) (omega arith), at (j + 1) i (omega arith) (omega arith) (omega arith) (omega arith),
-      weighted-number _ _ _ _ _ (demo_value-small nx ny n j i) (demo_value-small nx ny n j (i - 1)) (demo_value-small nx ny n j (i + 1)) (demo_value-small nx ny n (j - 1) i) (demo_value-small nx ny n (j + 1) i))
+      rw (
+        demo_number m (sight_at (demo_plan nx ny steps) g 1 step k j i),
+        row,
+        column,
+        west,
+        south,
+        at j i (omega arith) (omega arith) (omega arith) (omega arith),
+        at j (i - 1) (omega arith) (omega arith) (omega arith) (omega arith),
+        at j (i + 1) (omega arith) (omega arith) (omega arith) (omega arith),
+        at (j - 1) i (omega arith) (omega arith) (omega arith) (omega arith),
+        at (j + 1) i (omega arith) (omega arith) (omega arith) (omega arith),
+        weighted-number _ _ _ _ _ (demo_value-small nx ny n j i) (demo_value-small nx ny n j (i - 1)) (demo_value-small nx ny n j (i + 1)) (demo_value-small nx ny n (j - 1) i) (demo_value-small nx ny n (j + 1) i),
+      )
       (in_i32-small _ (suc-below (weighted-small _ _ _ _ _ (demo_value-small nx ny n j i) (demo_value-small nx ny n j (i - 1)) (demo_value-small nx ny n j (i + 1)) (demo_value-small nx ny n (j - 1) i) (demo_value-small nx ny n (j + 1) i))))
 
   abbrev phase_at : ℕ → Entry

@@ -10,11 +10,7 @@ use Rattle.wf_model.specs.Script.{entry, step_of, script_of}
 use Rattle.wf_model.specs.Outcome.{script}
 use Rattle.wf_model.specs.DemoCase.{demo_plan, demo_initial}
 use Rattle.wf_demo_laws.specs.DemoLaws.{demo_run, step_entries, demo_script}
-
--- lists made of the same parts
-pub flat_map-same : {X A : Type 0} (f g : X → List A) (xs : List X) → ((x : X) → f x ≡ g x) → flat_map f xs ≡ flat_map g xs
-flat_map-same f g [] h = refl
-flat_map-same f g (x ∷ xs) h = λ n. h x n ++ flat_map-same f g xs h n
+use Rattle.wf_demo_laws.proofs.Parts.{flat_map-same}
 
 module _ (nx ny steps : ℕ) where
   -- one step's items

@@ -29,3 +29,25 @@ demo_script steps = frame_entry 0 ∷ flat_map step_entries (range_with_len 0 st
 
 abbrev pub DemoScriptIsItsSteps : Type 0
 DemoScriptIsItsSteps = (nx ny steps : ℕ) (m : Answers) → script (demo_run nx ny steps m) ≡ demo_script steps
+
+-- values stay from 0 to 99
+abbrev pub DemoValuesStayBelowHundred : Type 0
+DemoValuesStayBelowHundred = (nx ny n j i : ℕ) → demo_value nx ny n j i < 100
+
+-- nothing overflows
+abbrev pub DemoGoesThrough : Type 0
+DemoGoesThrough = (nx ny steps : ℕ) (m : Answers) →
+    outcome_of (demo_run nx ny steps m) ≡ Ok (grids_at (demo_run nx ny steps m) (length (script (demo_run nx ny steps m))))
+
+-- domain 1's grid after n steps, before the frame that follows them and after it
+abbrev pub DemoGridIsItsOutcome : Type 0
+DemoGridIsItsOutcome = (nx ny steps : ℕ) (m : Answers) (n j i : ℕ) → n ≤ steps → 1 ≤ j → j ≤ ny → 1 ≤ i → i ≤ nx →
+    (grids_at (demo_run nx ny steps m) (3 * n) 1 0 1 j i ≡ pos (demo_value nx ny n j i))
+    × (grids_at (demo_run nx ny steps m) (3 * n + 1) 1 0 1 j i ≡ pos (demo_value nx ny n j i))
+
+-- as long as one file takes all frames
+abbrev pub DemoCallsAreItsWrites : Type 0
+DemoCallsAreItsWrites = (d : Demo) (m : Answers) → d.steps < 1000 → writes_of (demo_run d.nx d.ny d.steps m) ≡ demo_calls d
+
+abbrev pub DemoSummaryIsItsRuns : Type 0
+DemoSummaryIsItsRuns = (d : Demo) (m : Answers) → d.steps < 1000 → summary_of (demo_run d.nx d.ny d.steps m) ≡ demo_summary d
