@@ -1,0 +1,7 @@
+pub mod Script
+pub mod Values
+pub mod Phase
+pub mod Parts
+pub mod Grids
+pub mod Frames
+pub mod Writes

@@ -1,0 +1,53 @@
+-- What the laws of the built-in case say: its short definitions are the general ones of its plan.
+use Rattle.std.specs.Prelude.{◌≡◌, ℕ, ◌+◌, ◌*◌, ◌<◌, ◌≤◌, List, [], ◌∷◌, flat_map, length, pos, Ok}
+use Rattle.std.specs.List.{range_with_len}
+use Rattle.wf_model.specs.declared.demo.Demo.{Demo}
+use Rattle.wf_model.specs.declared.script.Act.TheVariants.{Table, Emit}
+use Rattle.wf_model.specs.declared.script.Entry.{Entry}
+use Rattle.wf_model.specs.Value.{Answers}
+use Rattle.wf_model.specs.Script.{entry}
+use Rattle.wf_model.specs.Outcome.{RunData, script, grids_at, outcome_of}
+use Rattle.wf_model.specs.Writes.{writes_of, summary_of}
+use Rattle.wf_model.specs.DemoCase.{demo_plan, demo_initial}
+use Rattle.wf_model.specs.Demo.{demo_value, demo_calls, demo_summary}
+
+-- the run of the demo's plan, by its points in x and y and its steps
+abbrev pub demo_run : ℕ → ℕ → ℕ → Answers → RunData
+demo_run nx ny steps m = record { plan = demo_plan nx ny steps; initial = demo_initial nx ny; answers = m }
+
+-- the frame after n steps of 60 seconds
+abbrev pub frame_entry : ℕ → Entry
+frame_entry n = entry 1 n (60 * n) (Emit 0)
+
+-- the items of the step after n steps: halo, phase and frame
+abbrev pub step_entries : ℕ → List Entry
+step_entries n = entry 1 (n + 1) (60 * n) (Table 0) ∷ entry 1 (n + 1) (60 * n) (Table 1) ∷ frame_entry (n + 1) ∷ []
+
+-- all items
+abbrev pub demo_script : ℕ → List Entry
+demo_script steps = frame_entry 0 ∷ flat_map step_entries (range_with_len 0 steps)
+
+abbrev pub DemoScriptIsItsSteps : Type 0
+DemoScriptIsItsSteps = (nx ny steps : ℕ) (m : Answers) → script (demo_run nx ny steps m) ≡ demo_script steps
+
+-- values stay from 0 to 99
+abbrev pub DemoValuesStayBelowHundred : Type 0
+DemoValuesStayBelowHundred = (nx ny n j i : ℕ) → demo_value nx ny n j i < 100
+
+-- nothing overflows
+abbrev pub DemoGoesThrough : Type 0
+DemoGoesThrough = (nx ny steps : ℕ) (m : Answers) →
+    outcome_of (demo_run nx ny steps m) ≡ Ok (grids_at (demo_run nx ny steps m) (length (script (demo_run nx ny steps m))))
+
+-- domain 1's grid after n steps, before the frame that follows them and after it
+abbrev pub DemoGridIsItsOutcome : Type 0
+DemoGridIsItsOutcome = (nx ny steps : ℕ) (m : Answers) (n j i : ℕ) → n ≤ steps → 1 ≤ j → j ≤ ny → 1 ≤ i → i ≤ nx →
+    (grids_at (demo_run nx ny steps m) (3 * n) 1 0 1 j i ≡ pos (demo_value nx ny n j i))
+    × (grids_at (demo_run nx ny steps m) (3 * n + 1) 1 0 1 j i ≡ pos (demo_value nx ny n j i))
+
+-- as long as one file takes all frames
+abbrev pub DemoCallsAreItsWrites : Type 0
+DemoCallsAreItsWrites = (d : Demo) (m : Answers) → d.steps < 1000 → writes_of (demo_run d.nx d.ny d.steps m) ≡ demo_calls d
+
+abbrev pub DemoSummaryIsItsRuns : Type 0
+DemoSummaryIsItsRuns = (d : Demo) (m : Answers) → d.steps < 1000 → summary_of (demo_run d.nx d.ny d.steps m) ≡ demo_summary d
