@@ -14,7 +14,7 @@ use Rattle.wf_cases.specs.InputCases.{CutInput, HostileBytes, RestartInput}
 
 pub cut_input : CutInput
 unfolding case_input file_header dims_of placed header_bytes stream_levels domain_of field_of slab_bytes listed input_of header_at header_from time_text days_after next_day grid_from
-cut_input = record { size = refl; whole = refl; cut = refl; cut_in_the_header = refl; missing = refl }
+cut_input = record { size = refl; whole = refl; cut = refl; cut_in_the_header = refl; missing = refl; moved_data = refl }
 
 pub hostile_bytes : HostileBytes
 unfolding case_input file_header dims_of placed header_bytes stream_levels domain_of field_of slab_bytes listed input_of header_at header_from time_text days_after next_day grid_from

@@ -1,5 +1,5 @@
 -- Worked cases of input and restart files.
-use Rattle.std.specs.Prelude.{ℕ, ◌≡◌, ◌+◌, true, List, [], ◌∷◌, ◌++◌, length, take, drop, Result, Ok, Err, codes}
+use Rattle.std.specs.Prelude.{ℕ, ◌≡◌, ◌+◌, true, List, [], ◌∷◌, ◌++◌, length, take, drop, replicate, Result, Ok, Err, codes}
 use Rattle.wf_model.specs.declared.plan.Plan.{Plan}
 use Rattle.wf_model.specs.declared.header.Header.{Header}
 use Rattle.wf_model.specs.declared.header.Att.{Att}
@@ -32,12 +32,17 @@ read bytes = input_of (with_file no_files file bytes) plan
 abbrev pub refused : InputKind → Result Initial InputFault
 refused k = Err (record { file = file; kind = k })
 
+-- 64 bytes between the header and the data, and each begin raised by 64
+abbrev pub moved : List ℕ
+moved = take 212 input ++ four_bytes 444 ++ take 160 (drop 216 input) ++ four_bytes 464 ++ replicate 64 170 ++ drop 380 input
+
 pub record CutInput : Type 0 where
   pub size : length input ≡ 436
   pub whole : read input ≡ Ok (demo_initial 3 3)
   pub cut : read (take 435 input) ≡ refused (kind.Truncated 435)
   pub cut_in_the_header : read (take 100 input) ≡ refused (kind.Cdf (cdf.Truncated 100))
   pub missing : input_of no_files plan ≡ refused kind.Missing
+  pub moved_data : read moved ≡ Ok (demo_initial 3 3)
 
 -- ---- hostile bytes: the input with a number of four bytes, or a byte, replaced at a place
 

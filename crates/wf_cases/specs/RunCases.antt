@@ -1,6 +1,8 @@
 -- Worked cases of whole runs of one domain: their grids, or their first overflow.
-use Rattle.std.specs.Prelude.{ℕ, ◌≡◌, ◌*◌, Bool, true, false, replicate, List, [], ◌∷◌, ℤ, pos, negsuc, codes, Some}
+use Rattle.std.specs.Prelude.{ℕ, ◌≡◌, ◌*◌, Bool, true, false, replicate, List, [], ◌∷◌, length, ℤ, pos, negsuc, ◌+ℤ◌, ◌-ℤ◌, codes, Some, None, slice_index_or}
+use Rattle.std.specs.Int.{int_div_euclid}
 use Rattle.wf_model.specs.declared.expr.Expr.{Expr, roll-Expr}
+use Rattle.wf_model.specs.declared.expr.Args.{Args, roll-Args}
 use Rattle.wf_model.specs.declared.expr.Args.TheOpen as e
 use Rattle.wf_model.specs.declared.expr.Test.TheVariants.{Less, Equal}
 use Rattle.wf_model.specs.declared.plan.Item.{Item}
@@ -9,7 +11,14 @@ use Rattle.wf_model.specs.declared.point.What.TheVariants as what
 use Rattle.wf_model.specs.declared.script.Act.TheVariants.{Table}
 use Rattle.wf_model.specs.Grids.{level_list}
 use Rattle.wf_model.specs.Outcome.{RunData, begin_grids, grids_at, overflow_of}
-use Rattle.wf_model.specs.DemoCase.{case_start, case_domain, case_field, case_plan, case_values, demo_expr}
+use Rattle.wf_model.specs.Value.{Answers}
+use Rattle.wf_model.specs.Frames.{frames_of}
+use Rattle.wf_model.specs.Lockstep.{memory_report}
+use Rattle.wf_model.specs.Writes.{summary_of}
+use Rattle.wf_model.specs.Bytes.{header_bytes}
+use Rattle.wf_model.specs.Headers.{file_header}
+use Rattle.wf_model.specs.Sizes.{file_size}
+use Rattle.wf_model.specs.DemoCase.{columns_layout, case_start, case_domain, case_field, case_plan, case_values, demo_expr}
 
 abbrev pub num : ℕ → Expr
 num n = roll-Expr (e.Num n)
@@ -95,3 +104,67 @@ far = run_of_two false 8 1 (phase 0 0 0 0 (roll-Expr (e.Add (read (pos 0)) (num 
 
 pub record FarGrid : Type 0 where
   pub b : numbers far 1 4 ≡ pos 0 ∷ pos 0 ∷ pos 0 ∷ pos 1 ∷ pos 38 ∷ pos 0 ∷ pos 0 ∷ pos 0 ∷ []
+
+-- a run of no length has its start frame alone
+abbrev pub short : RunData
+short = record (run_of_two false 3 3 (square ∷ [])) { plan = record ((run_of_two false 3 3 (square ∷ [])).plan) { steps = 0 } }
+
+pub record RunOfNoLength : Type 0 where
+  pub frames : length (frames_of short) ≡ 1
+
+-- ---- a nest of 9 by 9 points on a domain of 8 by 8, and a phase that overflows where i is 9
+
+abbrev pub at_nine : Expr
+at_nine = roll-Expr (e.If Equal (roll-Expr e.I) (num 9) (num 3000000000) (read (pos 0)))
+
+abbrev pub nested : RunData
+nested = record {
+  plan = record (case_plan 8 8 10 (case_field (codes "a") (codes "A")) (phase 0 0 0 0 at_nine ∷ [])) {
+    domains = case_domain 8 8 ∷ record (case_domain 9 9) { parent = 1; i_start = 3; j_start = 3; ratio = 3; time_ratio = 3; seconds = 20 } ∷ [];
+  };
+  initial = record { grids = (case_values 37 100 8 8 ∷ []) ∷ []; begins = record { steps = 0; start_text = case_start; resumed = false } ∷ record { steps = 0; start_text = case_start; resumed = false } ∷ [] };
+  answers = λ id xs. pos 0;
+}
+
+-- before the nest has started it holds 0
+pub record NestOverflow : Type 0 where
+  pub nest : overflow_of nested (record { domain = 2; step = 1; time = 0; act = Table 0 }) (begin_grids nested)
+      ≡ Some (record { domain = 2; step = 1; what = what.Phase 0; field = 0; k = 1; j = 1; i = 9 })
+
+-- ---- a stored function: x + (y - x) div n
+
+abbrev pub at_list : List ℤ → ℕ → ℤ
+at_list xs n = slice_index_or xs n (pos 0)
+
+abbrev pub relax : Answers
+relax id xs = at_list xs 0 +ℤ int_div_euclid (at_list xs 1 -ℤ at_list xs 0) (at_list xs 2)
+
+-- call relax(a[0,0,0], 100, 4)
+abbrev pub relaxed : Expr
+relaxed = roll-Expr (e.Call 1 (roll-Args (e.More (read (pos 0)) (roll-Args (e.More (num 100) (roll-Args (e.More (num 4) (roll-Args e.End))))))))
+
+abbrev pub hooked : RunData
+hooked = record (run 2 1 0 relaxed) { answers = relax }
+
+pub record RelaxHook : Type 0 where
+  pub grid : level_list hooked.plan 1 0 (grids_at hooked 2) ≡ pos 25 ∷ pos 52 ∷ []
+
+-- ---- a field that is staggered in x: five points, of which the last patch has the extra one
+
+abbrev pub staggered : RunData
+staggered = record {
+  plan = record (case_plan 4 1 1 (record (case_field (codes "u") (codes "U")) { stag_x = true }) []) { version = 1 };
+  initial = record { grids = ((pos 10 ∷ pos 20 ∷ pos 30 ∷ pos 40 ∷ pos 50 ∷ []) ∷ []) ∷ []; begins = record { steps = 0; start_text = case_start; resumed = false } ∷ [] };
+  answers = λ id xs. pos 0;
+}
+
+pub record StaggeredExtraPoint : Type 0 where
+  pub memories : memory_report staggered (columns_layout 3) ≡
+      record { domain = 1; patch = 0; cells = 1; sum = pos 10 } ∷ record { domain = 1; patch = 1; cells = 1; sum = pos 20 } ∷ record { domain = 1; patch = 2; cells = 3; sum = pos 120 } ∷ []
+  pub summary : summary_of staggered ≡ record { files = 1; records = 2; bytes = 80; sum = 2255 }
+
+-- ---- a stream without fields: its file has a header of 176 bytes, and two records of 19, which aren't padded
+
+pub record StreamWithoutFields : Type 0 where
+  pub header : length (header_bytes (file_header short.plan 1 3 case_start 0)) ≡ 176
+  pub whole_file : file_size (file_header short.plan 1 3 case_start 0) 2 ≡ 214
