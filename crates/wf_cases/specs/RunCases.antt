@@ -1,8 +1,8 @@
 -- Worked cases of whole runs of one domain: their grids, or their first overflow.
-use Rattle.std.specs.Prelude.{ℕ, ◌≡◌, ◌*◌, Bool, true, false, replicate, List, [], ◌∷◌, length, ℤ, pos, negsuc, ◌+ℤ◌, ◌-ℤ◌, codes, Some, None, slice_index_or}
+use Rattle.std.specs.Prelude.{ℕ, ◌≡◌, ◌*◌, Bool, true, false, replicate, List, [], ◌∷◌, length, ℤ, pos, negsuc, ◌+ℤ◌, ◌-ℤ◌, codes, Some, slice_index_or}
 use Rattle.std.specs.Int.{int_div_euclid}
 use Rattle.wf_model.specs.declared.expr.Expr.{Expr, roll-Expr}
-use Rattle.wf_model.specs.declared.expr.Args.{Args, roll-Args}
+use Rattle.wf_model.specs.declared.expr.Args.{roll-Args}
 use Rattle.wf_model.specs.declared.expr.Args.TheOpen as e
 use Rattle.wf_model.specs.declared.expr.Test.TheVariants.{Less, Equal}
 use Rattle.wf_model.specs.declared.plan.Item.{Item}

@@ -2,6 +2,7 @@
 
 ghost use Rattle.wf_cases.specs.DemoCases.{DemoOnePatch, DemoInItsOwnWords};
 ghost use Rattle.wf_cases.specs.RunCases.{OldValues, BothPatchesOverflow, ExtendedPhase, PeriodicGrid, FarGrid, RunOfNoLength, NestOverflow, RelaxHook, StaggeredExtraPoint, StreamWithoutFields};
+ghost use Rattle.wf_cases.specs.CountCases.{Counts, LayoutRefusals};
 ghost use Rattle.wf_cases.specs.EventCases.{EventsInOrder, HaloMemories};
 
 /// The demo on 3 by 3 points: its grid, its file byte for byte, and its summary.
@@ -62,33 +63,40 @@ pub fn halo_memories()
 #[tactic(auto, using(crate::proofs::RunCases::run_of_no_length))]
 pub fn run_of_no_length()
     ensures { RunOfNoLength }
-{
-}
+{}
 
 /// The first overflow of a nest.
 #[tactic(auto, using(crate::proofs::RunCases::nest_overflow))]
 pub fn nest_overflow()
     ensures { NestOverflow }
-{
-}
+{}
 
 /// A stored function in an expression.
 #[tactic(auto, using(crate::proofs::RunCases::relax_hook))]
 pub fn relax_hook()
     ensures { RelaxHook }
-{
-}
+{}
 
 /// The last patch has the extra point of a staggered field.
 #[tactic(auto, using(crate::proofs::RunCases::staggered_extra_point))]
 pub fn staggered_extra_point()
     ensures { StaggeredExtraPoint }
-{
-}
+{}
 
 /// The sizes of a file that has times alone.
 #[tactic(auto, using(crate::proofs::RunCases::stream_without_fields))]
 pub fn stream_without_fields()
     ensures { StreamWithoutFields }
-{
-}
+{}
+
+/// Cells, items of the script, bytes and events, as they are counted beforehand.
+#[tactic(auto, using(crate::proofs::CountCases::counts))]
+pub fn counts()
+    ensures { Counts }
+{}
+
+/// Too many patches in a direction, in all, and too many tiles.
+#[tactic(auto, using(crate::proofs::CountCases::layout_refusals))]
+pub fn layout_refusals()
+    ensures { LayoutRefusals }
+{}
