@@ -5,3 +5,4 @@ pub mod Parts
 pub mod Grids
 pub mod Frames
 pub mod Writes
+pub mod Accepted

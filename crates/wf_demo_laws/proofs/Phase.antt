@@ -111,7 +111,8 @@ module _ (nx ny steps : ℕ) (m : Answers) where
   abbrev phase_at : ℕ → Entry
   phase_at n = entry 1 (n + 1) (60 * n) (Table 1)
 
-  region_inner : (k j i : ℕ) → in_region (demo_plan nx ny steps) 1 phase_of k j i ≡ true → IsInner nx ny j i
+  -- the phase's region has the inner points
+  pub region_inner : (k j i : ℕ) → in_region (demo_plan nx ny steps) 1 phase_of k j i ≡ true → IsInner nx ny j i
   unfolding in_region domain_of field_of
   region_inner k j i h = inner nx ny j i (sym (region_is j i) ∙ without_first (nat_le 1 k && nat_le k 1) (nat_le (1 + 1) j && nat_le j (ny + 1 - 1 + 0 - 1)) (nat_le (1 + 1) i && nat_le i (nx + 1 - 1 + 0 - 1)) h)
 
