@@ -34,6 +34,12 @@ three_more n = omega arith
 three_ahead : (n : ℕ) → 3 * suc n ≡ suc (n * 3 + 2)
 three_ahead n = omega arith
 
+three_on : (n c : ℕ) → 3 * n + 1 + c ≡ suc (n * 3 + c)
+three_on n c = omega arith
+
+none_more : (n : ℕ) → 0 + n ≡ n
+none_more n = omega arith
+
 none_one : (n : ℕ) → 0 + n + 1 ≡ suc n
 none_one n = omega arith
 
@@ -118,6 +124,14 @@ module _ (nx ny steps : ℕ) (m : Answers) where
 
   pub length-script : length (script run) ≡ 3 * steps + 1
   length-script = ap length (script-steps nx ny steps m) ∙ ap suc (length-rows step_entries 3 (λ k. refl) 0 steps) ∙ sym (three_more steps)
+
+  -- the items of each step
+  pub step_item : (n c : ℕ) → n < steps → c < 3 → (e : Entry) → get_or (script run) (3 * n + 1 + c) e ≡ get_or (step_entries n) c e
+  step_item n c h few e =
+      ap (λ (es : List Entry). get_or es (3 * n + 1 + c) e) (script-steps nx ny steps m)
+      ∙ ap (λ (k : ℕ). get_or (demo_script steps) k e) (three_on n c)
+      ∙ get_or-rows step_entries 3 (λ k. refl) 0 steps n c e h few
+      ∙ ap (λ (k : ℕ). get_or (step_entries k) c e) (none_more n)
 
   demo_frame_item : (n : ℕ) → n ≤ steps → (e : Entry) → get_or (demo_script steps) (3 * n) e ≡ frame_entry n
   demo_frame_item zero h e = refl

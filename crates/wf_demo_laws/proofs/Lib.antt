@@ -6,3 +6,4 @@ pub mod Grids
 pub mod Frames
 pub mod Writes
 pub mod Accepted
+pub mod Held

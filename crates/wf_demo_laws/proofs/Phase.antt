@@ -108,7 +108,7 @@ module _ (nx ny steps : ℕ) (m : Answers) where
       )
       (in_i32-small _ (suc-below (weighted-small _ _ _ _ _ (demo_value-small nx ny n j i) (demo_value-small nx ny n j (i - 1)) (demo_value-small nx ny n j (i + 1)) (demo_value-small nx ny n (j - 1) i) (demo_value-small nx ny n (j + 1) i))))
 
-  abbrev phase_at : ℕ → Entry
+  abbrev pub phase_at : ℕ → Entry
   phase_at n = entry 1 (n + 1) (60 * n) (Table 1)
 
   -- the phase's region has the inner points
