@@ -7,3 +7,5 @@ pub mod Frames
 pub mod Writes
 pub mod Accepted
 pub mod Held
+pub mod Sums
+pub mod Columns
