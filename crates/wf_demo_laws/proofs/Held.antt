@@ -145,7 +145,7 @@ module _ (nx ny steps px : ℕ) (m : Answers) (high : 1 ≤ ny) (some : 1 ≤ px
   clean : (n : ℕ) → n ≤ length (script go) → IsClean go n
   clean n h = clean-Ok go (grids_at go (length (script go))) n (demo_goes nx ny steps m) h
 
-  abbrev end_memory : ℕ → Memory
+  abbrev pub end_memory : ℕ → Memory
   end_memory p = ((lockstep_at go (columns_layout px) (length (script go))).patches 1 p).memory
 
   -- own cells have all steps behind them
@@ -165,7 +165,7 @@ module _ (nx ny steps px : ℕ) (m : Answers) (high : 1 ≤ ny) (some : 1 ≤ px
 
   -- and the others of the memory one step less, where there are steps
   module _ (p j i : ℕ) (hp : p < px * 1) (j_low : 1 ≤ j) (j_high : j ≤ ny) (i_low : 1 ≤ i) (i_high : i ≤ nx) (within : in_box (memory_box go.plan wide 1 p 0) (pos j) (pos i) ≡ true) where
-    beside_none : steps ≡ 0 → end_memory p 0 1 (pos j) (pos i) ≡ pos (demo_value nx ny 0 j i)
+    pub beside_none : steps ≡ 0 → end_memory p 0 1 (pos j) (pos i) ≡ pos (demo_value nx ny 0 j i)
     unfolding domain_of field_of
     beside_none none =
         fresh_right go (columns_layout px) sound laid (plan_covered nx ny steps) 1 (length (script go)) p 0 1 (pos j) (pos i) first (omega arith) (clean (length (script go)) (omega arith)) hp (omega arith) (omega arith) within (fresh_at_end p 1 (pos j) (pos i) none)
@@ -173,7 +173,7 @@ module _ (nx ny steps px : ℕ) (m : Answers) (high : 1 ≤ ny) (some : 1 ≤ px
         ∙ grid_after_frame nx ny steps m 0 (omega arith) j i j_low j_high i_low i_high
 
 
-    beside_some : (n : ℕ) → steps ≡ n + 1 → is_own go.plan wide 1 p 0 (pos j) (pos i) ≡ false → halo_holds go.plan wide 1 p halo_part (pos j) (pos i) ≡ true → end_memory p 0 1 (pos j) (pos i) ≡ pos (demo_value nx ny n j i)
+    pub beside_some : (n : ℕ) → steps ≡ n + 1 → is_own go.plan wide 1 p 0 (pos j) (pos i) ≡ false → halo_holds go.plan wide 1 p halo_part (pos j) (pos i) ≡ true → end_memory p 0 1 (pos j) (pos i) ≡ pos (demo_value nx ny n j i)
     unfolding domain_of field_of
     beside_some n is other there =
         let ends : length (script go) ≡ 3 * n + 1 + 1 + 1 + 1 = length-script nx ny steps m ∙ last_place n steps is in

@@ -9,3 +9,4 @@ pub mod Accepted
 pub mod Held
 pub mod Sums
 pub mod Columns
+pub mod Report
