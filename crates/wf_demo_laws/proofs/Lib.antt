@@ -10,3 +10,4 @@ pub mod Held
 pub mod Sums
 pub mod Columns
 pub mod Report
+pub mod Command

@@ -8,8 +8,12 @@ use Rattle.wf_model.specs.Value.{Answers}
 use Rattle.wf_model.specs.Script.{entry}
 use Rattle.wf_model.specs.Outcome.{RunData, script, grids_at, outcome_of}
 use Rattle.wf_model.specs.Writes.{writes_of, summary_of}
-use Rattle.wf_model.specs.DemoCase.{demo_plan, demo_initial}
-use Rattle.wf_model.specs.Demo.{demo_value, demo_calls, demo_summary}
+use Rattle.wf_model.specs.DemoCase.{demo_plan, demo_initial, columns_layout}
+use Rattle.wf_model.specs.Demo.{demo_value, demo_calls, demo_summary, demo_memories, demo_answer}
+use Rattle.wf_model.specs.Files.{Files}
+use Rattle.wf_model.specs.Lockstep.{memory_report}
+use Rattle.wf_model.specs.Agreement.{IsAccepted}
+use Rattle.wf_model.specs.Answer.{Outside, demo, command_answer}
 
 -- the run of the demo's plan, by its points in x and y and its steps
 abbrev pub demo_run : ℕ → ℕ → ℕ → Answers → RunData
@@ -51,3 +55,17 @@ DemoCallsAreItsWrites = (d : Demo) (m : Answers) → d.steps < 1000 → writes_o
 
 abbrev pub DemoSummaryIsItsRuns : Type 0
 DemoSummaryIsItsRuns = (d : Demo) (m : Answers) → d.steps < 1000 → summary_of (demo_run d.nx d.ny d.steps m) ≡ demo_summary d
+
+-- the plan and its layouts by columns are sound, and the halo check accepts the plan
+abbrev pub DemoIsAccepted : Type 0
+DemoIsAccepted = (nx ny steps px : ℕ) (m : Answers) → 1 ≤ ny → 1 ≤ px → px ≤ nx → IsAccepted (demo_run nx ny steps m) (columns_layout px)
+
+-- and a patch for each column at most
+abbrev pub DemoMemoriesAreItsReport : Type 0
+DemoMemoriesAreItsReport =
+    (d : Demo) (m : Answers) → 1 ≤ d.ny → 1 ≤ d.px → d.px ≤ d.nx → memory_report (demo_run d.nx d.ny d.steps m) (columns_layout d.px) ≡ demo_memories d
+
+-- with a row and a patch
+abbrev pub DemoAnswerIsItsCommands : Type 0
+DemoAnswerIsItsCommands =
+    (outside : Outside) (files : Files) (d : Demo) → 1 ≤ d.ny → 1 ≤ d.px → d.steps < 1000 → command_answer outside files (demo d.nx d.ny d.steps d.px d.each) ≡ demo_answer d

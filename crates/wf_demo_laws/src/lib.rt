@@ -1,7 +1,7 @@
 //! Laws of the built-in case: its short definitions are the general ones of its plan.
 #![tactic(auto)]
 
-ghost use Rattle.wf_demo_laws.specs.DemoLaws.{DemoScriptIsItsSteps, DemoValuesStayBelowHundred, DemoGoesThrough, DemoGridIsItsOutcome, DemoCallsAreItsWrites, DemoSummaryIsItsRuns};
+ghost use Rattle.wf_demo_laws.specs.DemoLaws.{DemoIsAccepted, DemoMemoriesAreItsReport, DemoAnswerIsItsCommands, DemoScriptIsItsSteps, DemoValuesStayBelowHundred, DemoGoesThrough, DemoGridIsItsOutcome, DemoCallsAreItsWrites, DemoSummaryIsItsRuns};
 
 /// The items of the demo's run: a frame, and then each step's halo, phase and frame.
 pub fn demo_script_law()
@@ -33,3 +33,23 @@ pub fn demo_calls_law()
 pub fn demo_summary_law()
     ensures { DemoSummaryIsItsRuns }
 {}
+
+/// The demo's plan is sound, each layout of it by columns is, and the halo check accepts it.
+pub fn demo_accepted_law()
+    ensures { DemoIsAccepted }
+{
+}
+
+/// The demo's memory lines are those of its lockstep run on columns, with at most a patch for each column: a patch's own
+/// columns have all steps behind them, and the one column beside each end one step less, or none where there are none.
+pub fn demo_memories_law()
+    ensures { DemoMemoriesAreItsReport }
+{
+}
+
+/// The demo's answer is that of its command: its status, what it prints and its store calls, up to 999 steps. More patches
+/// than columns are refused by both.
+pub fn demo_answer_law()
+    ensures { DemoAnswerIsItsCommands }
+{
+}
