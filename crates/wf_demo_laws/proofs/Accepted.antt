@@ -1,5 +1,5 @@
 -- The demo's plan is sound, so is each layout of it by columns, and the halo check accepts it.
-use Rattle.std.proofs.Common.{◌≡◌, ◌⊎◌, inl, inr, ⊎_elim, ℕ, zero, suc, ◌+◌, ◌*◌, ◌-◌, ◌<◌, ◌≤◌, Bool, true, false, List, [], ◌∷◌, length, refl, sym, ap, ◌∙◌, subst, arith}
+use Rattle.std.proofs.Common.{◌≡◌, ◌⊎◌, inl, inr, ⊎_elim, ℕ, ◌+◌, ◌-◌, ◌≤◌, Bool, true, false, List, [], ◌∷◌, refl, sym, ap, ◌∙◌, subst, arith}
 use Rattle.std.proofs.lemmas.Int.{ints}
 use Rattle.std.proofs.lemmas.List.{append-nil}
 use Rattle.std.proofs.lemmas.List.Elements.{All-cons, All-map}
@@ -32,23 +32,27 @@ pub record IsNear (rd : Read) : Type 0 where
   pub i_high : rd.di ≤ℤ pos 1
   pub cross : (rd.dj ≡ pos 0) ⊎ (rd.di ≡ pos 0)
 
+-- a read of the one level
 abbrev read : ℤ → ℤ → Read
 read di dj = record { field = 0; di = di; dk = pos 0; dj = dj }
 
+-- the five reads of the demo's expression
 demo_reads : reads_of demo_expr ≡ read (pos 0) (pos 0) ∷ read (negsuc 0) (pos 0) ∷ read (pos 1) (pos 0) ∷ read (pos 0) (negsuc 0) ∷ read (pos 0) (pos 1) ∷ []
 unfolding reads_of
 demo_reads = simp fold-roll-Expr refl
 
+-- of the same row, and of the same column
 in_row : (di : ℤ) → negsuc 0 ≤ℤ di → di ≤ℤ pos 1 → IsNear (read di (pos 0))
 in_row di l h = record { field = refl; level = refl; j_low = omega (arith, ints); j_high = omega (arith, ints); i_low = l; i_high = h; cross = inl refl }
 
 in_column : (dj : ℤ) → negsuc 0 ≤ℤ dj → dj ≤ℤ pos 1 → IsNear (read (pos 0) dj)
 in_column dj l h = record { field = refl; level = refl; j_low = l; j_high = h; i_low = omega (arith, ints); i_high = omega (arith, ints); cross = inr refl }
 
--- and so keeps a list of none
+-- and a list of none keeps all
 none_of : {X : Type 0} (P : X → Type 0) → All P []
 none_of P k d h = absurd (omega arith)
 
+-- all five are near
 reads_near : All IsNear (reads_of demo_expr)
 reads_near =
     subst (All IsNear) (sym demo_reads)
@@ -63,9 +67,11 @@ reads_near =
 all_of : {X : Type 0} (P Q : X → Type 0) (xs : List X) → ((x : X) → P x → Q x) → All P xs → All Q xs
 all_of P Q xs f all = λ k d h. f _ (all k d h)
 
-abbrev pub rows : ℕ → Span
-rows n = record { low = pos 1; high = pos (n + 1 - 1 + 0 + 1) }
+-- the points of a direction
+abbrev pub points : ℕ → Span
+points n = record { low = pos 1; high = pos (n + 1 - 1 + 0 + 1) }
 
+-- the demo's halo
 abbrev pub halo_part : HaloPart
 halo_part = record { field = 0; cross = true; radius = 1 }
 
@@ -73,6 +79,7 @@ module _ (nx ny steps : ℕ) where
   abbrev plan : Plan
   plan = demo_plan nx ny steps
 
+  -- there is one domain, and one level
   one_domain : (d : ℕ) → IsDomain plan d → d ≡ 1
   one_domain d is = omega (arith, is.0, is.1)
 
@@ -86,6 +93,7 @@ module _ (nx ny steps : ℕ) where
       and_both _ _ (span-in (record { low = pos 1; high = pos (ny + 1 - 1 + 0 + 1) }) (pos j +ℤ rd.dj) (omega (arith, ints)) (omega (arith, ints)))
       (span-in (record { low = pos 1; high = pos (nx + 1 - 1 + 0 + 1) }) (pos i +ℤ rd.di) (omega (arith, ints)) (omega (arith, ints)))
 
+  -- so are its reads, its phase, its halo and its level sound
   read_sound : (rd : Read) → IsNear rd → IsSoundRead plan 1 phase_of rd
   unfolding field_of
   read_sound rd near = record {
@@ -110,6 +118,7 @@ module _ (nx ny steps : ℕ) where
   unfolding field_of
   pair_sound = record { is = omega arith; back = refl; levels = refl; stag_x = refl; stag_y = refl; restart = refl }
 
+  -- the plan is sound
   pub plan_sound : 1 ≤ nx → 1 ≤ ny → IsSoundPlan plan
   unfolding domain_of field_of
   plan_sound x y = record {
@@ -124,6 +133,7 @@ module _ (nx ny steps : ℕ) where
         (All-cons (IsSoundItem plan) (item.Phase phase_of) [] phase_sound (none_of (IsSoundItem plan)));
   }
 
+  -- and so is a layout by columns
   pub layout_sound : (px : ℕ) → 1 ≤ px → px ≤ nx → 1 ≤ ny → IsSoundLayout plan (columns_layout px)
   unfolding domain_of
   layout_sound px some room y = record {
@@ -154,11 +164,11 @@ module _ (nx ny steps : ℕ) where
       let own : Box = own_box plan split 1 p 0 in
       let box : in_box (grown_box 0 0 own) j i ≡ true = and_left (in_box (grown_box 0 0 own) j i) (is_place plan 1 0 j i && in_region plan 1 phase_of k (unsigned_abs j) (unsigned_abs i)) h in
       let held = and_right (in_box (grown_box 0 0 own) j i) (is_place plan 1 0 j i && in_region plan 1 phase_of k (unsigned_abs j) (unsigned_abs i)) h in
-      let place : (in_span (rows ny) j && in_span (rows nx) i) ≡ true = and_left (is_place plan 1 0 j i) (in_region plan 1 phase_of k (unsigned_abs j) (unsigned_abs i)) held in
+      let place : (in_span (points ny) j && in_span (points nx) i) ≡ true = and_left (is_place plan 1 0 j i) (in_region plan 1 phase_of k (unsigned_abs j) (unsigned_abs i)) held in
       let region = and_right (is_place plan 1 0 j i) (in_region plan 1 phase_of k (unsigned_abs j) (unsigned_abs i)) held in
       let at : IsInner nx ny (unsigned_abs j) (unsigned_abs i) = region_inner nx ny steps (λ id xs. pos 0) k (unsigned_abs j) (unsigned_abs i) region in
-      let jl : pos 1 ≤ℤ j = span-low (rows ny) j (and_left (in_span (rows ny) j) (in_span (rows nx) i) place) in
-      let il : pos 1 ≤ℤ i = span-low (rows nx) i (and_right (in_span (rows ny) j) (in_span (rows nx) i) place) in
+      let jl : pos 1 ≤ℤ j = span-low (points ny) j (and_left (in_span (points ny) j) (in_span (points nx) i) place) in
+      let il : pos 1 ≤ℤ i = span-low (points nx) i (and_right (in_span (points ny) j) (in_span (points nx) i) place) in
       let yl : (own.y.low -ℤ pos 0) ≤ℤ j = span-low (grown 0 own.y) j (and_left (in_span (grown 0 own.y) j) (in_span (grown 0 own.x) i) box) in
       let yh : j <ℤ (own.y.high +ℤ pos 0) = span-high (grown 0 own.y) j (and_left (in_span (grown 0 own.y) j) (in_span (grown 0 own.x) i) box) in
       let xl : (own.x.low -ℤ pos 0) ≤ℤ i = span-low (grown 0 own.x) i (and_right (in_span (grown 0 own.y) j) (in_span (grown 0 own.x) i) box) in
@@ -175,12 +185,13 @@ module _ (nx ny steps : ℕ) where
       }
 
   -- a cell beside a patch's own, in one direction, is one that the halo fetches
-  pub halo_there : (split : Split) (p : ℕ) (j i : ℤ) → in_span (rows ny) j ≡ true → in_span (rows nx) i ≡ true →
+  pub halo_there : (split : Split) (p : ℕ) (j i : ℤ) → in_span (points ny) j ≡ true → in_span (points nx) i ≡ true →
       (in_box (grown_box 1 0 (own_box plan split 1 p 0)) j i || in_box (grown_box 0 1 (own_box plan split 1 p 0)) j i) ≡ true → is_own plan split 1 p 0 j i ≡ false →
       halo_holds plan split 1 p halo_part j i ≡ true
   unfolding halo_holds is_in_domain in_halo_box domain_of field_of
   halo_there split p j i y x near other = and_both _ _ (and_both _ _ (and_both _ _ y x) near) (ap not other)
 
+  -- a neighbour of a computed cell is own or beside the patch's own
   near_cell : (split : Split) (p : ℕ) (j i : ℤ) (rd : Read) → IsNear rd → IsComputed split p j i →
       (in_box (grown_box 1 0 (own_box plan split 1 p 0)) (j +ℤ rd.dj) (i +ℤ rd.di) || in_box (grown_box 0 1 (own_box plan split 1 p 0)) (j +ℤ rd.dj) (i +ℤ rd.di)) ≡ true
   near_cell split p j i rd near at =
@@ -192,12 +203,14 @@ module _ (nx ny steps : ℕ) where
       (and_both _ _ (span-in (grown 1 own.y) (j +ℤ rd.dj) (omega (arith, ints)) (omega (arith, ints))) (span-in (grown 0 own.x) (i +ℤ rd.di) (omega (arith, ints)) (omega (arith, ints)))))
       near.cross
 
+  -- there the walk back ends at the halo
   walk_ends : (split : Split) (p k : ℕ) (j i : ℤ) → halo_holds plan split 1 p halo_part j i ≡ true → walk plan split 1 p k j i (looked_back (cycle_of plan 1) 1) 0 ≡ true
   unfolding cycle_of walk
   walk_ends split p k j i h =
       let before : List Turn = reverse (cycle_of plan 1) ++ reverse (drop 1 (cycle_of plan 1)) in
       λ n. walk_on (if h n || false then ends true else goes_on 0) (walk plan split 1 p k j i before)
 
+  -- each read is covered
   read_covered : (rd : Read) → IsNear rd → IsReadCovered plan (record { domain = 1; item = 1; phase = phase_of; read = rd })
   unfolding IsReadCovered field_of
   read_covered rd near patch k j i within =
@@ -214,12 +227,13 @@ module _ (nx ny steps : ℕ) where
       (⊎_elim (λ o. or_left own met o)
       (λ o. or_right own met
       (walk_ends (fine plan 1) patch 1 y x
-      (halo_there (fine plan 1) patch y x (span-in (rows ny) y (omega (arith, ints, at.j_low, at.j_high)) (omega (arith, ints))) (span-in (rows nx) x (omega (arith, ints)) (omega (arith, ints)))
+      (halo_there (fine plan 1) patch y x (span-in (points ny) y (omega (arith, ints, at.j_low, at.j_high)) (omega (arith, ints))) (span-in (points nx) x (omega (arith, ints)) (omega (arith, ints)))
       (near_cell (fine plan 1) patch j i rd near at) o)))
       (split_bool own)))
       (λ c. or_left (not computed) (own || met) (ap not c))
       (split_bool computed))
 
+  -- the halo check accepts the plan
   pub plan_covered : IsCovered plan
   unfolding IsCovered all_asked
   plan_covered =

@@ -1,5 +1,5 @@
 -- The boxes of patches by columns: their own columns, and one beside each end.
-use Rattle.std.proofs.Common.{◌≡◌, ⊎_elim, ℕ, zero, suc, ◌+◌, ◌*◌, ◌-◌, ◌/◌, ◌%◌, ◌<◌, ◌≤◌, Bool, true, false, List, [], ◌∷◌, ◌++◌, map, length, refl, sym, ap, ◌∙◌, subst, arith}
+use Rattle.std.proofs.Common.{◌≡◌, ⊎_elim, ℕ, zero, suc, ◌+◌, ◌*◌, ◌-◌, ◌/◌, ◌<◌, ◌≤◌, Bool, true, false, List, [], ◌∷◌, ◌++◌, map, refl, sym, ap, ◌∙◌, arith}
 use Rattle.std.proofs.Math.Nat.{mod-eq_of_lt, div-eq_of_lt}
 use Rattle.std.proofs.lemmas.List.{append-nil}
 use Rattle.std.proofs.lemmas.Bool.{cases_lt}
@@ -11,11 +11,10 @@ use Rattle.std.specs.Int.{int_min, int_max}
 use Rattle.wf_model.specs.declared.expr.Expr.{fold-roll-Expr}
 use Rattle.wf_model.specs.Plans.{domain_of, field_of}
 use Rattle.wf_model.specs.Reads.{reads_of, margin_of}
-use Rattle.wf_model.specs.Patches.{Span, Box, Split, split_of, size_of, span_list, own_box, memory_box}
+use Rattle.wf_model.specs.Patches.{Split, split_of, size_of, span_list, own_box, memory_box}
 use Rattle.wf_model.specs.DemoCase.{demo_plan, columns_layout}
 use Rattle.wf_model.specs.Demo.{first_column, end_column}
 use Rattle.wf_laws.proofs.Bools.{split_bool}
-use Rattle.wf_laws.proofs.Spans.{block_low, block_end}
 
 -- a range in two parts
 pub range-split : (a m n : ℕ) → range_with_len a (m + n) ≡ range_with_len a m ++ range_with_len (a + m) n
@@ -30,10 +29,12 @@ range-split a (suc m) n =
     moved_in : (a m : ℕ) → a + 1 + m ≡ a + suc m
     moved_in a m = omega arith
 
+-- a range from further on
 map-shifted : (low a n : ℕ) → map (λ k. pos low +ℤ pos k) (range_with_len a n) ≡ map pos (range_with_len (low + a) n)
 map-shifted low a zero = refl
 map-shifted low a (suc n) = ap (λ (zs : List ℤ). pos (low + a) ∷ zs) (map-shifted low (a + 1) n ∙ ap (λ (k : ℕ). map pos (range_with_len k n)) (omega arith))
 
+-- how many numbers
 size-is : (low high : ℕ) → size_of (record { low = pos low; high = pos high }) ≡ high - low
 size-is low high =
     ⊎_elim
@@ -51,10 +52,12 @@ span_list-is low high =
     plus_none : (n : ℕ) → n + 0 ≡ n
     plus_none n = omega arith
 
+-- the last block is no longer than the others
 same_end : (b : Bool) (e : ℕ) → e + 1 + (if b then 0 else 0) ≡ e + 1
 same_end true e = omega arith
 same_end false e = omega arith
 
+-- the ends of a memory, cut to the domain
 cut_low : (f : ℕ) → int_max (pos 1) (pos (f + 1) -ℤ pos 1) ≡ pos (max 1 f)
 cut_low f = omega (arith, ints, clamps)
 
@@ -68,6 +71,7 @@ all_rows n = omega arith
 abbrev pub beside : ℕ → ℕ → List ℕ
 beside n i = if nat_lt 0 i && nat_le i n then i ∷ [] else []
 
+-- it has it, or it lies past it
 beside_there : (n i : ℕ) → 1 ≤ i → i ≤ n → beside n i ≡ i ∷ []
 beside_there n i l h = let t : (nat_lt 0 i && nat_le i n) ≡ true = grind (arith, nat_tests) in λ k. if t k then i ∷ [] else []
 
@@ -100,10 +104,12 @@ module _ (nx ny steps px : ℕ) (some : 1 ≤ px) (room : px ≤ nx) where
   abbrev wide : Split
   wide = split_of (columns_layout px)
 
+  -- the demo asks for cells one beyond a patch's own
   margin_is : margin_of (demo_plan nx ny steps) ≡ 1
   unfolding margin_of reads_of
   margin_is = simp fold-roll-Expr refl
 
+  -- a patch's own box, and its memory's
   pub own_is : (p : ℕ) → p < px → own_box (demo_plan nx ny steps) wide 1 p 0 ≡
       record { x = record { low = pos (first_column nx px p); high = pos (end_column nx px p) }; y = record { low = pos 1; high = pos (ny + 1) } }
   unfolding own_box domain_of field_of

@@ -1,16 +1,13 @@
 -- The demo's answer is that of its command.
-use Rattle.std.proofs.Common.{◌≡◌, ⊎_elim, ℕ, ◌+◌, ◌<◌, ◌≤◌, Bool, true, false, List, [], ◌∷◌, ◌++◌, refl, sym, ap, ◌∙◌, arith, Result, Ok, Err}
+use Rattle.std.proofs.Common.{◌≡◌, ⊎_elim, ◌<◌, ◌≤◌, ◌++◌, sym, ap, ◌∙◌, arith, Result, Ok, Err}
 use Rattle.std.proofs.lemmas.Bool.Decides.{nat_tests}
 use Rattle.std.specs.Prelude.{nat_lt, if◌then◌else◌}
 use Rattle.wf_model.specs.declared.demo.Demo.{Demo}
 use Rattle.wf_model.specs.declared.layout.Layout.{Layout}
 use Rattle.wf_model.specs.declared.plan_fault.LayoutFault.{LayoutFault}
 use Rattle.wf_model.specs.declared.plan_fault.LayoutFault.TheVariants.{TooManyPatches}
-use Rattle.wf_model.specs.Grids.{Grids}
 use Rattle.wf_model.specs.Files.{Files}
-use Rattle.wf_model.specs.Outcome.{RunData, Overflow, script, grids_at, outcome_of}
-use Rattle.wf_model.specs.Writes.{writes_of, summary_of}
-use Rattle.wf_model.specs.Lockstep.{memory_report}
+use Rattle.wf_model.specs.Outcome.{RunData}
 use Rattle.wf_model.specs.Reading.{told_as}
 use Rattle.wf_model.specs.Refusals.{layout_refusal}
 use Rattle.wf_model.specs.DemoCase.{columns_layout}
@@ -26,6 +23,7 @@ module _ (outside : Outside) (files : Files) (d : Demo) (high : 1 ≤ d.ny) (som
   abbrev run : RunData
   run = demo_run d.nx d.ny d.steps outside.answers
 
+  -- with a patch for each column at most it goes through
   goes_through : d.px ≤ d.nx → run_answer run (columns_layout d.px) (how d.each) ≡
       record { status = 0; text = summary_line (demo_summary d) ++ memory_text (how d.each) (demo_memories d); calls = demo_calls d }
   unfolding run_answer
@@ -36,6 +34,7 @@ module _ (outside : Outside) (files : Files) (d : Demo) (high : 1 ≤ d.ny) (som
       ap (ended_as run (columns_layout d.px) (how d.each)) (demo_goes d.nx d.ny d.steps outside.answers)
       ∙ (λ t. record { status = 0; text = summary_line (summary t) ++ memory_text (how d.each) (memories t); calls = calls t })
 
+  -- and else both refuse
   pub answer_is : command_answer outside files (demo d.nx d.ny d.steps d.px d.each) ≡ demo_answer d
   unfolding demo_answer
   answer_is =

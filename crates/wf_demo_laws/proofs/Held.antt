@@ -1,27 +1,24 @@
 -- What the patches of the demo hold at its end, in the lockstep run.
-use Rattle.std.proofs.Common.{◌≡◌, ⊎_elim, ℕ, zero, suc, ◌+◌, ◌*◌, ◌-◌, ◌/◌, ◌%◌, ◌<◌, ◌≤◌, Bool, true, false, List, [], ◌∷◌, ◌++◌, length, get_or, take, refl, sym, ap, ◌∙◌, subst, arith, add-one}
-use Rattle.std.proofs.lemmas.Int.{ints}
+use Rattle.std.proofs.Common.{◌≡◌, ⊎_elim, ℕ, ◌+◌, ◌*◌, ◌<◌, ◌≤◌, Bool, true, false, List, [], ◌∷◌, ◌++◌, length, get_or, take, refl, sym, ap, ◌∙◌, subst, arith}
 use Rattle.std.proofs.lemmas.List.Sums.{fold_more}
-use Rattle.std.specs.Prelude.{ℤ, pos, ◌+ℤ◌, ◌-ℤ◌, ◌≤ℤ◌, ◌<ℤ◌, ◌&&◌, ◌||◌, ◌==◌, fold, unwrap_or, if◌then◌else◌}
-use Rattle.wf_model.specs.declared.plan.Plan.{Plan}
+use Rattle.std.specs.Prelude.{ℤ, pos, ◌||◌, fold, unwrap_or, if◌then◌else◌}
 use Rattle.wf_model.specs.declared.plan.Item.TheVariants as item
-use Rattle.wf_model.specs.declared.layout.Layout.{Layout}
-use Rattle.wf_model.specs.declared.script.Act.TheVariants.{Table, Emit}
+use Rattle.wf_model.specs.declared.script.Act.TheVariants.{Table}
 use Rattle.wf_model.specs.declared.script.Entry.{Entry}
 use Rattle.wf_model.specs.Value.{Answers, value_of}
 use Rattle.wf_model.specs.Plans.{domain_of, field_of, item_of}
 use Rattle.wf_model.specs.Grids.{Grids}
 use Rattle.wf_model.specs.Script.{entry}
 use Rattle.wf_model.specs.Outcome.{RunData, script, grids_after, grids_at}
-use Rattle.wf_model.specs.Patches.{Split, split_of, in_box, own_box, memory_box, is_own, computes, in_span}
+use Rattle.wf_model.specs.Patches.{Split, split_of, in_box, own_box, memory_box, is_own, computes}
 use Rattle.wf_model.specs.Shapes.{halo_holds}
 use Rattle.wf_model.specs.Cycle.{Turn, done}
 use Rattle.wf_model.specs.Marks.{Marks, all_fresh, marks_after, is_fresh}
 use Rattle.wf_model.specs.Turns.{turns_after, turns_at}
 use Rattle.wf_model.specs.PatchEffect.{Memory, after_setting, patch_sight}
-use Rattle.wf_model.specs.Lockstep.{lockstep_at, lockstep}
+use Rattle.wf_model.specs.Lockstep.{lockstep_at}
 use Rattle.wf_model.specs.Sound.{IsDomain, IsSoundPlan, IsSoundLayout}
-use Rattle.wf_model.specs.DemoCase.{demo_plan, columns_layout}
+use Rattle.wf_model.specs.DemoCase.{columns_layout}
 use Rattle.wf_model.specs.Demo.{demo_value}
 use Rattle.wf_laws.proofs.Bools.{split_bool, differ, and_both, or_right}
 use Rattle.wf_laws.proofs.Spans.{span-in}
@@ -30,12 +27,13 @@ use Rattle.wf_laws.proofs.FirstOverflow.{IsClean, clean-Ok}
 use Rattle.wf_laws.proofs.Memories.{Memories, memories_after, memories_at}
 use Rattle.wf_laws.proofs.Entries.{marks_more}
 use Rattle.wf_laws.proofs.WholeRun.{memory_is, fresh_right, own_right}
-use Rattle.wf_demo_laws.specs.DemoLaws.{demo_run, frame_entry, step_entries, demo_script}
+use Rattle.wf_demo_laws.specs.DemoLaws.{demo_run, frame_entry, demo_script}
 use Rattle.wf_demo_laws.proofs.Script.{script-steps}
 use Rattle.wf_demo_laws.proofs.Phase.{phase_of, phase_at, halo_keeps}
-use Rattle.wf_demo_laws.proofs.Grids.{demo_goes, grid_after_frame, length-script, step_item, frame_item}
-use Rattle.wf_demo_laws.proofs.Accepted.{halo_part, IsComputed, computed_is, plan_sound, layout_sound, plan_covered}
+use Rattle.wf_demo_laws.proofs.Grids.{demo_goes, grid_after_frame, length-script, step_item}
+use Rattle.wf_demo_laws.proofs.Accepted.{halo_part, computed_is, plan_sound, layout_sound, plan_covered}
 
+-- places, counted from the step's first
 plus_none : (n : ℕ) → n ≡ n + 0
 plus_none n = omega arith
 
@@ -55,6 +53,7 @@ module _ (nx ny steps : ℕ) (m : Answers) (split : Split) where
   abbrev run : RunData
   run = demo_run nx ny steps m
 
+  -- the halo's item in the step after n steps
   abbrev halo_at : ℕ → Entry
   halo_at n = entry 1 (n + 1) (60 * n) (Table 0)
 
@@ -78,6 +77,7 @@ module _ (nx ny steps : ℕ) (m : Answers) (split : Split) where
   unfolding memories_after after_setting
   frame_leaves ms n p f k j i = refl
 
+  -- one place more
   memories_next : (n : ℕ) (e : Entry) → n < length (script run) → memories_at run split (n + 1) ≡ memories_after run split (memories_at run split n) (get_or (script run) n e)
   unfolding memories_at
   memories_next n e h = fold_more (memories_after run split) _ (script run) n e h
@@ -85,6 +85,7 @@ module _ (nx ny steps : ℕ) (m : Answers) (split : Split) where
   turns_next : (n : ℕ) (e : Entry) → n < length (script run) → turns_at run 1 (n + 1) ≡ turns_after run.plan 1 (turns_at run 1 n) (get_or (script run) n e)
   turns_next n e h = fold_more (turns_after run.plan 1) [] (script run) n e h
 
+  -- the step's items
   halo_item : (n : ℕ) → n < steps → (e : Entry) → get_or (script run) (3 * n + 1) e ≡ halo_at n
   halo_item n h e = ap (λ (k : ℕ). get_or (script run) k e) (plus_none (3 * n + 1)) ∙ step_item nx ny steps m n 0 h (omega arith) e
 
@@ -133,6 +134,7 @@ module _ (nx ny steps px : ℕ) (m : Answers) (high : 1 ≤ ny) (some : 1 ≤ px
   abbrev go : RunData
   go = demo_run nx ny steps m
 
+  -- the run is accepted, and nothing of it overflows
   sound : IsSoundPlan go.plan
   sound = plan_sound nx ny steps (omega arith) high
 
@@ -145,6 +147,7 @@ module _ (nx ny steps px : ℕ) (m : Answers) (high : 1 ≤ ny) (some : 1 ≤ px
   clean : (n : ℕ) → n ≤ length (script go) → IsClean go n
   clean n h = clean-Ok go (grids_at go (length (script go))) n (demo_goes nx ny steps m) h
 
+  -- a patch's memory at the end
   abbrev pub end_memory : ℕ → Memory
   end_memory p = ((lockstep_at go (columns_layout px) (length (script go))).patches 1 p).memory
 
@@ -171,7 +174,6 @@ module _ (nx ny steps px : ℕ) (m : Answers) (high : 1 ≤ ny) (some : 1 ≤ px
         fresh_right go (columns_layout px) sound laid (plan_covered nx ny steps) 1 (length (script go)) p 0 1 (pos j) (pos i) first (omega arith) (clean (length (script go)) (omega arith)) hp (omega arith) (omega arith) within (fresh_at_end p 1 (pos j) (pos i) none)
         ∙ ap (λ (n : ℕ). grids_at go n 1 0 1 j i) (length-script nx ny steps m ∙ one_place steps none)
         ∙ grid_after_frame nx ny steps m 0 (omega arith) j i j_low j_high i_low i_high
-
 
     pub beside_some : (n : ℕ) → steps ≡ n + 1 → is_own go.plan wide 1 p 0 (pos j) (pos i) ≡ false → halo_holds go.plan wide 1 p halo_part (pos j) (pos i) ≡ true → end_memory p 0 1 (pos j) (pos i) ≡ pos (demo_value nx ny n j i)
     unfolding domain_of field_of

@@ -4,30 +4,27 @@ use Rattle.std.proofs.Math.Nat.{mul_comm, le-div_iff_mul-le, div-mul-le_self}
 use Rattle.std.proofs.lemmas.List.{append-nil, map-append, map-id, length-map}
 use Rattle.std.proofs.lemmas.Bool.Decides.{nat_tests}
 use Rattle.std.proofs.lemmas.Int.{ints}
-use Rattle.std.specs.Prelude.{ℤ, pos, ◌+ℤ◌, ◌-ℤ◌, ◌≤ℤ◌, ◌<ℤ◌, min, max, nat_lt, nat_le, ◌&&◌, ◌||◌, fold, flat_map, sum_by, if◌then◌else◌}
+use Rattle.std.specs.Prelude.{ℤ, pos, ◌+ℤ◌, ◌≤ℤ◌, ◌<ℤ◌, min, max, nat_lt, nat_le, ◌&&◌, ◌||◌, fold, flat_map, sum_by, if◌then◌else◌}
 use Rattle.std.specs.List.{range_with_len}
 use Rattle.wf_model.specs.declared.demo.Demo.{Demo}
-use Rattle.wf_model.specs.declared.plan.Plan.{Plan}
 use Rattle.wf_model.specs.declared.layout.Layout.{Layout}
 use Rattle.wf_model.specs.Value.{Answers}
-use Rattle.wf_model.specs.Plans.{domain_of, field_of, up_to}
-use Rattle.wf_model.specs.Outcome.{RunData, script}
-use Rattle.wf_model.specs.Patches.{Span, Box, Cell, Split, split_of, span_list, in_span, in_box, grown, grown_box, own_box, memory_box, is_own, cells_in}
+use Rattle.wf_model.specs.Plans.{field_of}
+use Rattle.wf_model.specs.Outcome.{RunData}
+use Rattle.wf_model.specs.Patches.{Span, Box, Cell, split_of, span_list, in_span, in_box, grown, grown_box, memory_box, is_own, cells_in}
 use Rattle.wf_model.specs.Shapes.{halo_holds}
 use Rattle.wf_model.specs.PatchEffect.{Memory}
-use Rattle.wf_model.specs.Core.{CoreState}
-use Rattle.wf_model.specs.Lockstep.{MemoryLine, lockstep, lockstep_at, cells_of_patch, memory_line, memory_report}
-use Rattle.wf_model.specs.DemoCase.{demo_plan, columns_layout}
+use Rattle.wf_model.specs.Lockstep.{lockstep, cells_of_patch, memory_line, memory_report}
+use Rattle.wf_model.specs.DemoCase.{columns_layout}
 use Rattle.wf_model.specs.Demo.{demo_value, first_column, end_column, column_sum, if_column, held_columns, demo_memory, demo_memories}
 use Rattle.wf_laws.proofs.Members.{In, In-either, In-map_out, In-range_out}
-use Rattle.wf_laws.proofs.Bools.{split_bool, differ, and_left, and_right, and_both, or_left}
-use Rattle.wf_laws.proofs.Blocks.{blocks_rise}
+use Rattle.wf_laws.proofs.Bools.{split_bool, and_right, and_both, or_left}
 use Rattle.wf_laws.proofs.Spans.{span-in, span-low, span-high, block_low, block_end}
 use Rattle.wf_laws.proofs.Listing.{length-rows}
 use Rattle.wf_demo_laws.specs.DemoLaws.{demo_run}
 use Rattle.wf_demo_laws.proofs.Parts.{flat_map-same, map-range_same}
 use Rattle.wf_demo_laws.proofs.Sums.{sum-swap, sum-rows, map-map, flat_map-map}
-use Rattle.wf_demo_laws.proofs.Accepted.{halo_part, halo_there, rows}
+use Rattle.wf_demo_laws.proofs.Accepted.{halo_part, halo_there, points}
 use Rattle.wf_demo_laws.proofs.Columns.{own_is, memory_is, span_list-is, beside, columns_are}
 use Rattle.wf_demo_laws.proofs.Held.{end_memory, own_value, beside_none, beside_some}
 
@@ -35,6 +32,7 @@ use Rattle.wf_demo_laws.proofs.Held.{end_memory, own_value, beside_none, beside_
 abbrev columns_of : List (ℕ × ℕ) → List ℕ
 columns_of hs = map (λ (h : ℕ × ℕ). h.1) hs
 
+-- a column beside an end, without its steps
 if_column_is : (n t i : ℕ) → columns_of (if_column n t i) ≡ beside n i
 if_column_is n t i = at (nat_lt 0 i && nat_le i n)
   where
@@ -50,6 +48,7 @@ in_if_column n t i h is = at (nat_lt 0 i && nat_le i n) refl is
     at true q is = (⊎_elim (λ e. e) (λ none. absurd none) is, q)
     at false q is = absurd is
 
+-- a row's cell of a column
 abbrev cell : ℕ → ℕ × ℕ → Cell
 cell j h = record { field = 0; k = 1; j = pos j; i = pos h.1 }
 
@@ -72,6 +71,7 @@ module _ (d : Demo) (m : Answers) (high : 1 ≤ d.ny) (some : 1 ≤ d.px) (room 
   abbrev layout : Layout
   layout = columns_layout d.px
 
+  -- the column before a patch's own, and its own last
   abbrev before : ℕ → ℕ
   before p = p * d.nx / d.px
 
@@ -88,6 +88,7 @@ module _ (d : Demo) (m : Answers) (high : 1 ≤ d.ny) (some : 1 ≤ d.px) (room 
   starts : (p : ℕ) → p < d.px → before p < d.nx
   starts p h = block_low p d.px d.nx (omega arith) (omega arith) h
 
+  -- the columns that a patch holds
   held_are : (p : ℕ) → columns_of (held_columns d p) ≡ beside d.nx (before p) ++ range_with_len (before p + 1) (last p - before p) ++ beside d.nx (last p + 1)
   held_are p =
       let steps_before : List (ℕ × ℕ) = if_column d.nx (d.steps - 1) (first_column d.nx d.px p - 1) in
@@ -95,9 +96,9 @@ module _ (d : Demo) (m : Answers) (high : 1 ≤ d.ny) (some : 1 ≤ d.px) (room 
       let after : List (ℕ × ℕ) = if_column d.nx (d.steps - 1) (end_column d.nx d.px p) in
       let one : columns_of steps_before ≡ beside d.nx (before p) = if_column_is d.nx (d.steps - 1) (first_column d.nx d.px p - 1) ∙ ap (beside d.nx) (one_back (before p)) in
       let two : columns_of own ≡ range_with_len (before p + 1) (last p - before p) =
-          map-map (λ (h : ℕ × ℕ). h.1) (λ i. (d.steps, i)) (range_with_len (first_column d.nx d.px p) (end_column d.nx d.px p - first_column d.nx d.px p))
-          ∙ map-id (range_with_len (first_column d.nx d.px p) (end_column d.nx d.px p - first_column d.nx d.px p))
-          ∙ ap (range_with_len (before p + 1)) (as_many (before p) (last p)) in
+      map-map (λ (h : ℕ × ℕ). h.1) (λ i. (d.steps, i)) (range_with_len (first_column d.nx d.px p) (end_column d.nx d.px p - first_column d.nx d.px p))
+      ∙ map-id (range_with_len (first_column d.nx d.px p) (end_column d.nx d.px p - first_column d.nx d.px p))
+      ∙ ap (range_with_len (before p + 1)) (as_many (before p) (last p)) in
       let three : columns_of after ≡ beside d.nx (last p + 1) = if_column_is d.nx (d.steps - 1) (end_column d.nx d.px p) in
       map-append (λ (h : ℕ × ℕ). h.1) (steps_before ++ own) after
       ∙ ap (λ (is : List ℕ). is ++ columns_of after) (map-append (λ (h : ℕ × ℕ). h.1) steps_before own)
@@ -111,12 +112,14 @@ module _ (d : Demo) (m : Answers) (high : 1 ≤ d.ny) (some : 1 ≤ d.px) (room 
       ∙ ap (λ (is : List ℕ). map pos is) (columns_are (before p) (last p) d.nx (rise p h) (within p h) (starts p h) ∙ sym (held_are p))
       ∙ map-map pos (λ (c : ℕ × ℕ). c.1) (held_columns d p)
 
+  -- and its rows are all
   rows_held : (p : ℕ) → p < d.px → span_list (memory_box run.plan (split_of layout) 1 p 0).y ≡ map pos (range_with_len 1 d.ny)
   rows_held p h =
       ap (λ (b : Box). span_list b.y) (memory_is d.nx d.ny d.steps d.px some room p h)
       ∙ span_list-is 1 (d.ny + 1)
       ∙ ap (λ (n : ℕ). map pos (range_with_len 1 n)) (one_back d.ny)
 
+  -- so its cells are those columns, row by row
   cells_are : (p : ℕ) → p < d.px → cells_of_patch run layout 1 p ≡ flat_map (λ j. map (cell j) (held_columns d p)) (range_with_len 1 d.ny)
   unfolding cells_in field_of
   cells_are p h =
@@ -143,6 +146,7 @@ module _ (d : Demo) (m : Answers) (high : 1 ≤ d.ny) (some : 1 ≤ d.px) (room 
 
   -- and one beside each end
   module _ (p j i : ℕ) (h : p < d.px) (a : 1 ≤ j) (b : j ≤ d.ny) (l : 1 ≤ i) (u : i ≤ d.nx) (edge : (i ≡ before p) ⊎ (i ≡ last p + 1)) where
+    -- they are not own
     not_own : is_own run.plan (split_of layout) 1 p 0 (pos j) (pos i) ≡ false
     unfolding is_own
     not_own =
@@ -158,22 +162,24 @@ module _ (d : Demo) (m : Answers) (high : 1 ≤ d.ny) (some : 1 ≤ d.px) (room 
         (λ o. o)
         (split_bool (is_own run.plan (split_of layout) 1 p 0 (pos j) (pos i)))
 
+    -- they are at the ends
     from_before : before p ≤ i
     from_before = ⊎_elim (λ e. omega (arith, e)) (λ e. omega (arith, e, rise p h)) edge
 
     to_after : i ≤ last p + 1
     to_after = ⊎_elim (λ e. omega (arith, e, rise p h)) (λ e. omega (arith, e)) edge
 
+    -- the halo fetches them into the memory
     halo_has : halo_holds run.plan (split_of layout) 1 p halo_part (pos j) (pos i) ≡ true
     halo_has =
         let lines : Span = record { low = pos 1; high = pos (d.ny + 1) } in
         let columns : Span = record { low = pos (before p + 1); high = pos (last p + 1) } in
         let own : Box = record { x = columns; y = lines } in
         let near =
-            ap (λ (box : Box). in_box (grown_box 1 0 box) (pos j) (pos i) || in_box (grown_box 0 1 box) (pos j) (pos i)) (own_is d.nx d.ny d.steps d.px some room p h)
-            ∙ or_left (in_box (grown_box 1 0 own) (pos j) (pos i)) (in_box (grown_box 0 1 own) (pos j) (pos i))
-            (and_both _ _ (span-in (grown 0 lines) (pos j) (omega (arith, ints)) (omega (arith, ints))) (span-in (grown 1 columns) (pos i) (omega (arith, ints, from_before)) (omega (arith, ints, to_after)))) in
-        halo_there d.nx d.ny d.steps (split_of layout) p (pos j) (pos i) (span-in (rows d.ny) (pos j) (omega (arith, ints)) (omega (arith, ints))) (span-in (rows d.nx) (pos i) (omega (arith, ints)) (omega (arith, ints))) near not_own
+        ap (λ (box : Box). in_box (grown_box 1 0 box) (pos j) (pos i) || in_box (grown_box 0 1 box) (pos j) (pos i)) (own_is d.nx d.ny d.steps d.px some room p h)
+        ∙ or_left (in_box (grown_box 1 0 own) (pos j) (pos i)) (in_box (grown_box 0 1 own) (pos j) (pos i))
+        (and_both _ _ (span-in (grown 0 lines) (pos j) (omega (arith, ints)) (omega (arith, ints))) (span-in (grown 1 columns) (pos i) (omega (arith, ints, from_before)) (omega (arith, ints, to_after)))) in
+        halo_there d.nx d.ny d.steps (split_of layout) p (pos j) (pos i) (span-in (points d.ny) (pos j) (omega (arith, ints)) (omega (arith, ints))) (span-in (points d.nx) (pos i) (omega (arith, ints)) (omega (arith, ints))) near not_own
 
     memory_has : in_box (memory_box run.plan (split_of layout) 1 p 0) (pos j) (pos i) ≡ true
     memory_has =
@@ -181,6 +187,7 @@ module _ (d : Demo) (m : Answers) (high : 1 ≤ d.ny) (some : 1 ≤ d.px) (room 
         ∙ and_both _ _ (span-in (record { low = pos 1; high = pos (d.ny + 1) }) (pos j) (omega (arith, ints)) (omega (arith, ints)))
         (span-in (record { low = pos (max 1 (before p)); high = pos (min (d.nx + 1) (last p + 2)) }) (pos i) (omega (arith, ints, from_before)) (omega (arith, ints, to_after)))
 
+    -- one step behind
     beside_number : (n : ℕ) → d.steps ≡ n → end_memory d.nx d.ny d.steps d.px m high some room p 0 1 (pos j) (pos i) ≡ pos (demo_value d.nx d.ny (d.steps - 1) j i)
     beside_number zero q =
         beside_none d.nx d.ny d.steps d.px m high some room p j i (omega arith) a b l u memory_has q
@@ -189,7 +196,7 @@ module _ (d : Demo) (m : Answers) (high : 1 ≤ d.ny) (some : 1 ≤ d.px) (room 
         beside_some d.nx d.ny d.steps d.px m high some room p j i (omega arith) a b l u memory_has n (omega (arith, q)) not_own halo_has
         ∙ ap (λ (t : ℕ). pos (demo_value d.nx d.ny t j i)) (omega (arith, q))
 
-
+  -- at the end a row's cell of a column holds its value
   abbrev Holds : ℕ → ℕ → ℕ × ℕ → Type 0
   Holds p j c = end_memory d.nx d.ny d.steps d.px m high some room p 0 1 (pos j) (pos c.1) ≡ pos (demo_value d.nx d.ny c.0 j c.1)
 
@@ -226,14 +233,15 @@ module _ (d : Demo) (m : Answers) (high : 1 ≤ d.ny) (some : 1 ≤ d.px) (room 
       let memory : Memory = end_memory d.nx d.ny d.steps d.px m high some room p in
       let value : ℕ → ℕ × ℕ → ℕ = λ j c. demo_value d.nx d.ny c.0 j c.1 in
       let cells : length (cells_of_patch run layout 1 p) ≡ length held * d.ny =
-          ap length (cells_are p h) ∙ length-rows (λ j. map (cell j) held) (length held) (λ j. length-map held (cell j)) 1 d.ny ∙ mul_comm d.ny (length held) in
+      ap length (cells_are p h) ∙ length-rows (λ j. map (cell j) held) (length held) (λ j. length-map held (cell j)) 1 d.ny ∙ mul_comm d.ny (length held) in
       let total : fold (λ (z : ℤ) (c : Cell). z +ℤ memory c.field c.k c.j c.i) (pos 0) (cells_of_patch run layout 1 p) ≡ pos (sum_by (λ (c : ℕ × ℕ). column_sum d.nx d.ny c.0 c.1) held) =
-          ap (fold (λ (z : ℤ) (c : Cell). z +ℤ memory c.field c.k c.j c.i) (pos 0)) (cells_are p h)
-          ∙ sum-rows (λ (c : Cell). memory c.field c.k c.j c.i) cell value 0 held (range_with_len 1 d.ny)
-          (λ j row c is. let bounds = In-range_out j 1 d.ny row in holds p j h bounds.0 (omega (arith, bounds.1)) c is)
-          ∙ ap pos (none_first (sum_by (λ j. sum_by (value j) held) (range_with_len 1 d.ny)) ∙ sum-swap value (range_with_len 1 d.ny) held) in
+      ap (fold (λ (z : ℤ) (c : Cell). z +ℤ memory c.field c.k c.j c.i) (pos 0)) (cells_are p h)
+      ∙ sum-rows (λ (c : Cell). memory c.field c.k c.j c.i) cell value 0 held (range_with_len 1 d.ny)
+      (λ j row c is. let bounds = In-range_out j 1 d.ny row in holds p j h bounds.0 (omega (arith, bounds.1)) c is)
+      ∙ ap pos (none_first (sum_by (λ j. sum_by (value j) held) (range_with_len 1 d.ny)) ∙ sum-swap value (range_with_len 1 d.ny) held) in
       λ t. record { domain = 1; patch = p; cells = cells t; sum = total t }
 
+  -- and all of them
   pub report_is : memory_report run layout ≡ demo_memories d
   unfolding memory_report
   report_is =

@@ -1,6 +1,5 @@
 -- The demo's script.
-use Rattle.std.proofs.Common.{◌≡◌, ℕ, zero, suc, ◌+◌, ◌*◌, ◌/◌, ◌%◌, ◌-◌, List, [], ◌∷◌, ◌++◌, refl, sym, ap, ◌∙◌, arith}
-use Rattle.std.specs.Prelude.{flat_map, ◌==◌}
+use Rattle.std.proofs.Common.{◌≡◌, ℕ, ◌+◌, ◌*◌, ◌/◌, ◌%◌, ◌-◌, List, ◌∷◌, refl, ap, arith}
 use Rattle.std.specs.List.{range_with_len}
 use Rattle.wf_model.specs.Value.{Answers}
 use Rattle.wf_model.specs.Plans.{domain_of, begin_of, children}
@@ -21,8 +20,9 @@ module _ (nx ny steps : ℕ) where
       let due : (n + 1) % 1 ≡ 0 = omega arith in
       let begins : n * 60 ≡ 60 * n = omega arith in
       let ends : 60 * n + 60 ≡ 60 * (n + 1) = omega arith in
-      rw (behind, due, behind, begins, ends) refl
+      rw (behind, due, behind, begins, ends) (refl {a = step_entries n})
 
+  -- and all items
   pub script-steps : (m : Answers) → script (demo_run nx ny steps m) ≡ demo_script steps
   unfolding script_of domain_of begin_of
   script-steps m = ap (λ (es : List Entry). entry 1 0 0 (Emit 0) ∷ es) (flat_map-same (λ n. step_of (demo_plan nx ny steps) (demo_initial nx ny).begins 1 1 (n * 60)) step_entries (range_with_len 0 steps) demo_step)

@@ -1,9 +1,14 @@
 -- Sums of rows and of columns, and of numbers that a function gives.
-use Rattle.std.proofs.Common.{◌≡◌, inl, inr, ℕ, zero, suc, ◌+◌, ◌*◌, List, [], ◌∷◌, ◌++◌, map, length, refl, sym, ap, ◌∙◌, arith}
+use Rattle.std.proofs.Common.{◌≡◌, inl, inr, ℕ, ◌+◌, List, [], ◌∷◌, ◌++◌, map, refl, sym, ap, ◌∙◌, arith}
 use Rattle.std.proofs.lemmas.List.Sums.{sum_by-cons, fold-append}
 use Rattle.std.specs.Prelude.{ℤ, pos, ◌+ℤ◌, fold, flat_map, sum_by}
 use Rattle.wf_laws.proofs.Members.{In}
 
+-- a sum over a list that was gone through
+plus_none : (n : ℕ) → n ≡ n + 0
+plus_none n = omega arith
+
+-- the sum of noughts, and of sums
 sum-none : {X : Type 0} (xs : List X) → sum_by (λ (x : X). 0) xs ≡ 0
 sum-none [] = refl
 sum-none (x ∷ xs) = sum-none xs
@@ -25,9 +30,6 @@ sum-swap f xs (y ∷ ys) =
 pub sum-cells : {X C : Type 0} (number : C → ℤ) (cell : X → C) (v : X → ℕ) (so_far : ℕ) (xs : List X) → ((x : X) → In x xs → number (cell x) ≡ pos (v x)) →
     fold (λ a c. a +ℤ number c) (pos so_far) (map cell xs) ≡ pos (so_far + sum_by v xs)
 sum-cells number cell v so_far [] known = ap pos (plus_none so_far)
-  where
-    plus_none : (n : ℕ) → n ≡ n + 0
-    plus_none n = omega arith
 sum-cells number cell v so_far (x ∷ xs) known =
     ap (λ (z : ℤ). fold (λ a c. a +ℤ number c) (pos so_far +ℤ z) (map cell xs)) (known x (inl refl))
     ∙ sum-cells number cell v (so_far + v x) xs (λ y i. known y (inr i))
@@ -37,9 +39,6 @@ sum-cells number cell v so_far (x ∷ xs) known =
 pub sum-rows : {X J C : Type 0} (number : C → ℤ) (cell : J → X → C) (v : J → X → ℕ) (so_far : ℕ) (xs : List X) (js : List J) → ((j : J) → In j js → (x : X) → In x xs → number (cell j x) ≡ pos (v j x)) →
     fold (λ a c. a +ℤ number c) (pos so_far) (flat_map (λ j. map (cell j) xs) js) ≡ pos (so_far + sum_by (λ j. sum_by (v j) xs) js)
 sum-rows number cell v so_far xs [] known = ap pos (plus_none so_far)
-  where
-    plus_none : (n : ℕ) → n ≡ n + 0
-    plus_none n = omega arith
 sum-rows number cell v so_far xs (j ∷ js) known =
     fold-append (λ a c. a +ℤ number c) (pos so_far) (map (cell j) xs) (flat_map (λ y. map (cell y) xs) js)
     ∙ ap (λ (z : ℤ). fold (λ a c. a +ℤ number c) z (flat_map (λ y. map (cell y) xs) js)) (sum-cells number (cell j) (v j) so_far xs (known j (inl refl)))
