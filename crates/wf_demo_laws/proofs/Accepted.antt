@@ -49,11 +49,11 @@ in_column : (dj : ℤ) → negsuc 0 ≤ℤ dj → dj ≤ℤ pos 1 → IsNear (re
 in_column dj l h = record { field = refl; level = refl; j_low = l; j_high = h; i_low = omega (arith, ints); i_high = omega (arith, ints); cross = inr refl }
 
 -- and a list of none keeps all
-none_of : {X : Type 0} (P : X → Type 0) → All P []
+pub none_of : {X : Type 0} (P : X → Type 0) → All P []
 none_of P k d h = absurd (omega arith)
 
 -- all five are near
-reads_near : All IsNear (reads_of demo_expr)
+pub reads_near : All IsNear (reads_of demo_expr)
 reads_near =
     subst (All IsNear) (sym demo_reads)
     (All-cons IsNear (read (pos 0) (pos 0)) (read (negsuc 0) (pos 0) ∷ read (pos 1) (pos 0) ∷ read (pos 0) (negsuc 0) ∷ read (pos 0) (pos 1) ∷ []) (in_row (pos 0) (omega (arith, ints)) (omega (arith, ints)))
@@ -64,7 +64,7 @@ reads_near =
     (none_of IsNear))))))
 
 -- what each read keeps, all keep
-all_of : {X : Type 0} (P Q : X → Type 0) (xs : List X) → ((x : X) → P x → Q x) → All P xs → All Q xs
+pub all_of : {X : Type 0} (P Q : X → Type 0) (xs : List X) → ((x : X) → P x → Q x) → All P xs → All Q xs
 all_of P Q xs f all = λ k d h. f _ (all k d h)
 
 -- the points of a direction
@@ -80,10 +80,10 @@ module _ (nx ny steps : ℕ) where
   plan = demo_plan nx ny steps
 
   -- there is one domain, and one level
-  one_domain : (d : ℕ) → IsDomain plan d → d ≡ 1
+  pub one_domain : (d : ℕ) → IsDomain plan d → d ≡ 1
   one_domain d is = omega (arith, is.0, is.1)
 
-  one_level : (f : ℕ) → IsLevel plan f → f ≡ 0
+  pub one_level : (f : ℕ) → IsLevel plan f → f ≡ 0
   one_level f is = omega arith
 
   -- a neighbour of an inner point is a point

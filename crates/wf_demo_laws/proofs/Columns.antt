@@ -100,14 +100,14 @@ columns_are (suc g) e n l h u =
     ∙ ap (λ (ks : List ℕ). suc g ∷ ks) (columns_on (suc g) e n l h)
     ∙ ap (λ (ks : List ℕ). ks ++ range_with_len (suc g + 1) (e - suc g) ++ beside n (e + 1)) (sym (beside_there n (suc g) (omega arith) (omega arith)))
 
+-- the demo asks for cells one beyond a patch's own
+pub margin_is : (nx ny steps : ℕ) → margin_of (demo_plan nx ny steps) ≡ 1
+unfolding margin_of reads_of
+margin_is nx ny steps = simp fold-roll-Expr refl
+
 module _ (nx ny steps px : ℕ) (some : 1 ≤ px) (room : px ≤ nx) where
   abbrev wide : Split
   wide = split_of (columns_layout px)
-
-  -- the demo asks for cells one beyond a patch's own
-  margin_is : margin_of (demo_plan nx ny steps) ≡ 1
-  unfolding margin_of reads_of
-  margin_is = simp fold-roll-Expr refl
 
   -- a patch's own box, and its memory's
   pub own_is : (p : ℕ) → p < px → own_box (demo_plan nx ny steps) wide 1 p 0 ≡
@@ -133,5 +133,5 @@ module _ (nx ny steps px : ℕ) (some : 1 ≤ px) (room : px ≤ nx) where
       let x_low = cut_low (p * nx / px) in
       let x_high = cut_high nx ((p + 1) * nx / px) in
       let y_high = cut_high ny ny ∙ ap pos (all_rows ny) in
-      rw (margin_is, own_is p h, width, height)
+      rw (margin_is nx ny steps, own_is p h, width, height)
       (λ n. record { x = record { low = x_low n; high = x_high n }; y = record { low = pos 1; high = y_high n } })

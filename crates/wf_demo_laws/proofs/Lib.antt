@@ -11,3 +11,4 @@ pub mod Sums
 pub mod Columns
 pub mod Report
 pub mod Command
+pub mod Ranged

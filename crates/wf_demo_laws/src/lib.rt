@@ -3,7 +3,7 @@
 //! law as its contract and nothing to do. Rows and columns count from 1, places of the script from 0.
 #![tactic(auto)]
 
-ghost use Rattle.wf_demo_laws.specs.DemoLaws.{DemoAnswerIsItsCommands, DemoCallsAreItsWrites, DemoGoesThrough, DemoGridIsItsOutcome, DemoIsAccepted, DemoMemoriesAreItsReport, DemoScriptIsItsSteps, DemoSummaryIsItsRuns, DemoValuesStayBelowHundred};
+ghost use Rattle.wf_demo_laws.specs.DemoLaws.{DemoAnswerIsItsCommands, DemoCallsAreItsWrites, DemoGoesThrough, DemoGridIsItsOutcome, DemoIsAccepted, DemoIsInRange, DemoMemoriesAreItsReport, DemoScriptIsItsSteps, DemoSummaryIsItsRuns, DemoValuesStayBelowHundred};
 
 /// The items of the demo's run are a frame, and then the halo, the phase and the frame of each step.
 pub fn demo_script_is_its_steps()
@@ -39,6 +39,13 @@ pub fn demo_summary_is_its_runs()
 /// The demo's plan is sound, each layout of it by columns is, and the halo check accepts it.
 pub fn demo_is_accepted()
     ensures { DemoIsAccepted }
+{}
+
+/// The demo's plan keeps the ranges and limits of plans and its files fit, of up to 200 points in x and in y and 100,000
+/// steps; a layout of up to 256 columns keeps its ranges; what the run begins with fits the plan, and no stored function
+/// is used.
+pub fn demo_is_in_range()
+    ensures { DemoIsInRange }
 {}
 
 /// The demo's memory lines are those of its lockstep run on columns, with a patch for each column at most: a patch's own
