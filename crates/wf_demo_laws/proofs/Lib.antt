@@ -11,4 +11,5 @@ pub mod Sums
 pub mod Columns
 pub mod Report
 pub mod Command
+pub mod FileSizes
 pub mod Ranged

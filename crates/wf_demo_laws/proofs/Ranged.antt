@@ -1,11 +1,11 @@
--- The demo's plan keeps the ranges and limits of plans, its files fit, it uses no stored function, and what it begins with fits it.
-use Rattle.std.proofs.Common.{◌≡◌, inl, ℕ, zero, suc, ◌+◌, ◌*◌, ◌-◌, ◌/◌, ◌%◌, ◌<◌, ◌≤◌, ◌^◌, true, List, [], ◌∷◌, length, get_or, refl, sym, ap, ◌∙◌, subst, arith}
+-- The demo's plan keeps the ranges and limits of plans, it uses no stored function, and what it begins with fits it.
+use Rattle.std.proofs.Common.{◌≡◌, inl, ℕ, zero, suc, ◌+◌, ◌*◌, ◌-◌, ◌%◌, ◌<◌, ◌≤◌, ◌^◌, true, List, [], ◌∷◌, length, get_or, refl, sym, ap, ◌∙◌, subst, arith}
 use Rattle.std.proofs.lemmas.Int.{ints}
 use Rattle.std.proofs.Math.Nat.{mul-le-mul}
 use Rattle.std.proofs.lemmas.Bool.Decides.{nat_tests}
 use Rattle.std.proofs.lemmas.List.Elements.{All-cons}
 use Rattle.std.proofs.lemmas.List.Sums.{AllPass-from_list_all}
-use Rattle.std.specs.Prelude.{ℤ, pos, ◌≤ℤ◌, codes, min, max, nat_le, ◌&&◌}
+use Rattle.std.specs.Prelude.{ℤ, pos, ◌≤ℤ◌, codes, nat_le, ◌&&◌}
 use Rattle.std.specs.List.{All, list_all}
 use Rattle.wf_model.specs.declared.plan.Plan.{Plan}
 use Rattle.wf_model.specs.declared.plan.HaloPart.{HaloPart}
@@ -19,14 +19,10 @@ use Rattle.wf_model.specs.Calendar.{moment_of}
 use Rattle.wf_model.specs.Reads.{Read, reads_of}
 use Rattle.wf_model.specs.ExprFacts.{Parts, CallOf, nodes_of, depth_of, parts_of, IsRangedExpr, IsNearRead}
 use Rattle.wf_model.specs.Ranges.{Within, IsRangedLayout, IsRangedDomain, IsRangedField, IsRangedPhase, IsRangedItem}
-use Rattle.wf_model.specs.Sound.{IsSoundTime, IsWithinLimits, IsRangedPlan, FilesFit, IsSoundBegin, IsFittingInitial, IsHook, UsesHooks, CallsHooks, HasHooks}
+use Rattle.wf_model.specs.Sound.{IsSoundTime, IsWithinLimits, IsRangedPlan, IsSoundBegin, IsFittingInitial, IsHook, UsesHooks, CallsHooks, HasHooks}
 use Rattle.wf_model.specs.DemoCase.{columns_layout, case_start, case_domain, case_field, demo_plan, demo_initial, demo_expr}
-use Rattle.wf_model.specs.Counts.{fresh_script, stream_bytes}
+use Rattle.wf_model.specs.Counts.{fresh_script}
 use Rattle.wf_model.specs.Script.{script_of}
-use Rattle.wf_model.specs.Bytes.{header_bytes}
-use Rattle.wf_model.specs.Sizes.{most_bytes}
-use Rattle.wf_model.specs.Headers.{file_header, dims_of}
-use Rattle.wf_model.specs.Streams.{stream_levels}
 use Rattle.wf_model.specs.Outcome.{no_list, no_lists}
 use Rattle.wf_model.specs.declared.table.HookKind.TheVariants.{Call}
 use Rattle.wf_laws.proofs.Listing.{length-rows, length-listed}
@@ -35,6 +31,7 @@ use Rattle.wf_laws.proofs.Bools.{differ}
 use Rattle.wf_demo_laws.proofs.Phase.{phase_of}
 use Rattle.wf_demo_laws.proofs.Script.{fresh, fresh-steps}
 use Rattle.wf_demo_laws.proofs.Accepted.{IsNear, reads_near, all_of, none_of, one_domain, one_level, halo_part}
+use Rattle.wf_demo_laws.proofs.FileSizes.{files_fit}
 use Rattle.wf_demo_laws.proofs.Columns.{margin_is}
 
 -- what is counted of the demo's expression
@@ -123,15 +120,6 @@ phase_ranged = record {
   expr = expr_ranged;
 }
 
--- a file of so many records is small
-size_fits : (n rows columns : ℕ) → rows ≤ 200 → columns ≤ 200 → 380 + max 1 (min 1000 n) * (20 + (1 * rows * columns * 4 + 3) / 4 * 4) ≤ 2147483644
-size_fits n rows columns a b =
-    let points : rows * columns ≤ 200 * 200 = mul-le-mul a b in
-    let records : max 1 (min 1000 n) ≤ 1000 = omega arith in
-    let size : 20 + (1 * rows * columns * 4 + 3) / 4 * 4 ≤ 160023 = omega (arith, points) in
-    let all : max 1 (min 1000 n) * (20 + (1 * rows * columns * 4 + 3) / 4 * 4) ≤ 1000 * 160023 = mul-le-mul records size in
-    omega (arith, all)
-
 module _ (nx ny steps : ℕ) where
   abbrev plan : Plan
   plan = demo_plan nx ny steps
@@ -209,26 +197,6 @@ module _ (nx ny steps : ℕ) where
         subst (λ (e : ℕ). length (get_or (get_or lists (e - 1) no_lists) f no_list) ≡ nz plan f * (ny_of plan e f * nx_of plan e f)) (sym (one_domain nx ny steps d is))
         (subst (λ (g : ℕ). length (get_or (get_or lists (1 - 1) no_lists) g no_list) ≡ nz plan g * (ny_of plan 1 g * nx_of plan 1 g)) (sym (one_level nx ny steps f level)) whole);
   }
-
-  -- of the one stream, and of the others, which hold no level
-  stream_fits : nx ≤ 200 → ny ≤ 200 → (stream : ℕ) → stream ≤ 10 → stream_bytes plan 1 stream ≤ 2147483644
-  unfolding domain_of field_of file_header dims_of stream_levels header_bytes
-  stream_fits x y zero h = size_fits (1 + (steps * 60 - 0) / 60 / 1) (ny + 1 - 1 + 0) (nx + 1 - 1 + 0) (omega arith) (omega arith)
-  stream_fits x y (suc zero) h = omega arith
-  stream_fits x y (suc (suc zero)) h = omega arith
-  stream_fits x y (suc (suc (suc zero))) h = omega arith
-  stream_fits x y (suc (suc (suc (suc zero)))) h = omega arith
-  stream_fits x y (suc (suc (suc (suc (suc zero))))) h = omega arith
-  stream_fits x y (suc (suc (suc (suc (suc (suc zero)))))) h = omega arith
-  stream_fits x y (suc (suc (suc (suc (suc (suc (suc zero))))))) h = omega arith
-  stream_fits x y (suc (suc (suc (suc (suc (suc (suc (suc zero)))))))) h = omega arith
-  stream_fits x y (suc (suc (suc (suc (suc (suc (suc (suc (suc zero))))))))) h = omega arith
-  stream_fits x y (suc (suc (suc (suc (suc (suc (suc (suc (suc (suc zero)))))))))) h = omega arith
-  stream_fits x y (suc (suc (suc (suc (suc (suc (suc (suc (suc (suc (suc n))))))))))) h = absurd (omega arith)
-
-  -- and all its files fit
-  pub files_fit : nx ≤ 200 → ny ≤ 200 → FilesFit plan
-  files_fit x y d stream is h = subst (λ (e : ℕ). stream_bytes plan e stream ≤ most_bytes 1) (sym (one_domain nx ny steps d is)) (stream_fits x y stream h)
 
 -- a layout by columns keeps its ranges
 pub layout_ranged : (px : ℕ) → 1 ≤ px → px ≤ 256 → IsRangedLayout (columns_layout px)
