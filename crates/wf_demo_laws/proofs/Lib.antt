@@ -13,3 +13,4 @@ pub mod Report
 pub mod Command
 pub mod FileSizes
 pub mod Ranged
+pub mod Words

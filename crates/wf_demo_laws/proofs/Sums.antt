@@ -4,11 +4,11 @@ use Rattle.std.proofs.lemmas.List.Sums.{sum_by-cons, fold-append}
 use Rattle.std.specs.Prelude.{ℤ, pos, ◌+ℤ◌, fold, flat_map, sum_by}
 use Rattle.wf_laws.proofs.Members.{In}
 
--- a sum over a list that was gone through
+-- a sum with nothing added
 plus_none : (n : ℕ) → n ≡ n + 0
 plus_none n = omega arith
 
--- the sum of noughts, and of sums
+-- a sum of zeros, and of sums
 sum-none : {X : Type 0} (xs : List X) → sum_by (λ (x : X). 0) xs ≡ 0
 sum-none [] = refl
 sum-none (x ∷ xs) = sum-none xs

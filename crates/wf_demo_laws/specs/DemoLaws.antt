@@ -1,5 +1,5 @@
 -- What the laws of the built-in case say: its short definitions are the general ones of its plan.
-use Rattle.std.specs.Prelude.{◌≡◌, ℕ, ◌+◌, ◌*◌, ◌<◌, ◌≤◌, List, [], ◌∷◌, flat_map, length, pos, Ok}
+use Rattle.std.specs.Prelude.{◌≡◌, ℕ, ◌+◌, ◌*◌, ◌<◌, ◌≤◌, List, [], ◌∷◌, flat_map, length, pos, Option, Some, None, Result, Ok, Err, codes}
 use Rattle.std.specs.List.{range_with_len}
 use Rattle.wf_model.specs.declared.demo.Demo.{Demo}
 use Rattle.wf_model.specs.declared.table.HookName.{HookName}
@@ -14,9 +14,11 @@ use Rattle.wf_model.specs.Lockstep.{memory_report}
 use Rattle.wf_model.specs.Ranges.{IsRangedLayout}
 use Rattle.wf_model.specs.Sound.{IsRangedPlan, FilesFit, IsFittingInitial, HasHooks}
 use Rattle.wf_model.specs.Agreement.{IsAccepted}
-use Rattle.wf_model.specs.Answer.{Outside, demo, command_answer}
+use Rattle.wf_model.specs.Answer.{Outside, Command, demo, command_answer, answer_of}
+use Rattle.wf_model.specs.Letters.{Text}
+use Rattle.wf_model.specs.Refusals.{Refusal, refusal}
 use Rattle.wf_model.specs.DemoCase.{demo_plan, demo_initial, columns_layout}
-use Rattle.wf_model.specs.Demo.{demo_value, demo_calls, demo_summary, demo_memories, demo_answer}
+use Rattle.wf_model.specs.Demo.{demo_value, demo_calls, demo_summary, demo_memories, demo_answer, demo_of, tool_answer}
 
 -- the run of the demo's plan, by its points in x and y and its steps
 abbrev pub demo_run : ℕ → ℕ → ℕ → Answers → RunData
@@ -83,3 +85,13 @@ DemoMemoriesAreItsReport =
 abbrev pub DemoAnswerIsItsCommands : Type 0
 DemoAnswerIsItsCommands =
     (outside : Outside) (files : Files) (d : Demo) → 1 ≤ d.ny → 1 ≤ d.px → d.steps < 1000 → command_answer outside files (demo d.nx d.ny d.steps d.px d.each) ≡ demo_answer d
+
+-- how words are read where the demo is the only command
+abbrev pub asked_command : Option Demo → Result Command Refusal
+asked_command None = Err (refusal 1 (codes "usage: wrftool COMMAND [WORDS]" ∷ []))
+asked_command (Some d) = Ok (demo d.nx d.ny d.steps d.px d.each)
+
+-- any words that are read so are answered as the short definitions say
+abbrev pub WordsAreAnsweredByTheDemo : Type 0
+WordsAreAnsweredByTheDemo =
+    (outside : Outside) (files : Files) (words : List Text) → outside.command words ≡ asked_command (demo_of words) → answer_of outside words files ≡ tool_answer words

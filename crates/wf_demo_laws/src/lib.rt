@@ -3,7 +3,7 @@
 //! law as its contract and nothing to do. Rows and columns count from 1, places of the script from 0.
 #![tactic(auto)]
 
-ghost use Rattle.wf_demo_laws.specs.DemoLaws.{DemoAnswerIsItsCommands, DemoCallsAreItsWrites, DemoGoesThrough, DemoGridIsItsOutcome, DemoIsAccepted, DemoIsInRange, DemoMemoriesAreItsReport, DemoScriptIsItsSteps, DemoSummaryIsItsRuns, DemoValuesStayBelowHundred};
+ghost use Rattle.wf_demo_laws.specs.DemoLaws.{DemoAnswerIsItsCommands, DemoCallsAreItsWrites, DemoGoesThrough, DemoGridIsItsOutcome, DemoIsAccepted, DemoIsInRange, DemoMemoriesAreItsReport, DemoScriptIsItsSteps, DemoSummaryIsItsRuns, DemoValuesStayBelowHundred, WordsAreAnsweredByTheDemo};
 
 /// The items of the demo's run are a frame, and then the halo, the phase and the frame of each step.
 pub fn demo_script_is_its_steps()
@@ -58,4 +58,10 @@ pub fn demo_memories_are_its_report()
 /// than columns are refused by both.
 pub fn demo_answer_is_its_commands()
     ensures { DemoAnswerIsItsCommands }
+{}
+
+/// Where the demo is the only command that words are read as, each list of words is answered as the short definitions say:
+/// with the demo, its refusal, or the usage line.
+pub fn words_are_answered_by_the_demo()
+    ensures { WordsAreAnsweredByTheDemo }
 {}
