@@ -1,11 +1,9 @@
 -- The demo's frames.
-use Rattle.std.proofs.Common.{◌≡◌, ℕ, zero, suc, ◌+◌, ◌*◌, ◌-◌, ◌%◌, ◌<◌, ◌≤◌, true, List, [], ◌∷◌, ◌++◌, map, length, get_or, refl, sym, ap, ◌∙◌, subst, arith, add-one}
+use Rattle.std.proofs.Common.{◌≡◌, ℕ, zero, suc, ◌+◌, ◌*◌, ◌-◌, ◌%◌, ◌<◌, ◌≤◌, List, [], ◌∷◌, ◌++◌, map, length, get_or, refl, sym, ap, ◌∙◌, arith}
 use Rattle.std.proofs.lemmas.List.FromFn.{length-map-range_with_len, map-range_with_len_more}
 use Rattle.std.specs.Prelude.{flat_map, filter, ◌==◌}
 use Rattle.std.specs.List.{range_with_len}
 use Rattle.wf_model.specs.declared.frame.Frame.{Frame}
-use Rattle.wf_model.specs.declared.script.Act.TheVariants.{Table, Emit}
-use Rattle.wf_model.specs.declared.script.Entry.{Entry}
 use Rattle.wf_model.specs.Value.{Answers}
 use Rattle.wf_model.specs.Plans.{domain_of}
 use Rattle.wf_model.specs.Calendar.{time_text, days_after}
@@ -24,6 +22,7 @@ use Rattle.wf_demo_laws.proofs.Grids.{demo_goes}
 abbrev pub output_after : ℕ → Output
 output_after n = record { place = 3 * n; stream = 0; entry = frame_entry n }
 
+-- the outputs of steps, and of the whole script
 outputs_of_steps : (a n : ℕ) → outputs_from (3 * a + 1) (flat_map step_entries (range_with_len a n)) ≡ map output_after (range_with_len (a + 1) n)
 unfolding outputs_from
 outputs_of_steps a zero = refl
@@ -44,14 +43,17 @@ first_output : (n : ℕ) → get_or (map output_after (range_with_len 0 n) ++ ou
 first_output zero = refl
 first_output (suc n) = refl
 
+-- all outputs are alike
 all_alike : (a n : ℕ) → filter (is_like (output_after a)) (map output_after (range_with_len 0 n)) ≡ map output_after (range_with_len 0 n)
 all_alike a n = filter-map_all (is_like (output_after a)) output_after (range_with_len 0 n) (λ k. refl)
 
+-- the file's name
 file_is : file_name 0 1 (time_text case_start 0) ≡ demo_file
 unfolding time_text days_after
 file_is = refl
 
 module _ (nx ny steps : ℕ) where
+  -- each frame, and all of them
   frame_is : (n : ℕ) → n < 1000 → frame_for (demo_plan nx ny steps) (map output_after (range_with_len 0 n)) (output_after n) ≡ frame_after n
   unfolding domain_of
   frame_is n h =

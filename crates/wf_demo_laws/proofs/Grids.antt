@@ -1,13 +1,13 @@
 -- The demo's grid along its script, where nothing overflows.
-use Rattle.std.proofs.Common.{◌≡◌, ℕ, zero, suc, ◌+◌, ◌*◌, ◌-◌, ◌%◌, ◌<◌, ◌≤◌, List, [], ◌∷◌, ◌++◌, length, take, get_or, refl, sym, ap, ◌∙◌, subst, arith, add-one, Some, None, Ok}
+use Rattle.std.proofs.Common.{◌≡◌, ℕ, zero, suc, ◌+◌, ◌*◌, ◌-◌, ◌%◌, ◌<◌, ◌≤◌, List, [], ◌∷◌, ◌++◌, length, take, get_or, refl, sym, ap, ◌∙◌, subst, arith, add-one, None, Ok}
 use Rattle.std.proofs.Math.Seq.{take-length}
 use Rattle.std.specs.Prelude.{flat_map, fold, pos}
 use Rattle.std.specs.List.{range_with_len}
-use Rattle.wf_model.specs.declared.script.Act.TheVariants.{Table, Emit}
+use Rattle.wf_model.specs.declared.script.Act.TheVariants.{Table}
 use Rattle.wf_model.specs.declared.script.Entry.{Entry}
 use Rattle.wf_model.specs.Value.{Answers}
 use Rattle.wf_model.specs.Plans.{domain_of, field_of, begin_of}
-use Rattle.wf_model.specs.Grids.{Grids, grid_from, listed}
+use Rattle.wf_model.specs.Grids.{Grids, grid_from}
 use Rattle.wf_model.specs.Script.{entry}
 use Rattle.wf_model.specs.Outcome.{RunData, script, begin_grids, overflow_of, grids_after, grids_at, outcome_from, outcome_of}
 use Rattle.wf_model.specs.Demo.{demo_value}
@@ -23,16 +23,24 @@ unfoldable pub GoesThrough : RunData → List Entry → Grids → Type 0
 GoesThrough r [] g = Unit {0}
 GoesThrough r (e ∷ es) g = (overflow_of r e g ≡ None) × GoesThrough r es (grids_after r g e)
 
+-- then the outcome is the grids after all
 pub outcome_from-all : (r : RunData) (n : ℕ) (es : List Entry) (g : Grids) → GoesThrough r es g → outcome_from r n es g ≡ Ok (fold (grids_after r) g es)
 unfolding GoesThrough outcome_from
 outcome_from-all r n [] g h = refl
 outcome_from-all r n (e ∷ es) g h = outcome_from-next r n e es g h.0 ∙ outcome_from-all r (n + 1) es (grids_after r g e) h.1
 
+-- places, counted from the first frame
 three_more : (n : ℕ) → 3 * n + 1 ≡ suc (n * 3)
 three_more n = omega arith
 
 three_ahead : (n : ℕ) → 3 * suc n ≡ suc (n * 3 + 2)
 three_ahead n = omega arith
+
+three_on : (n c : ℕ) → 3 * n + 1 + c ≡ suc (n * 3 + c)
+three_on n c = omega arith
+
+none_more : (n : ℕ) → 0 + n ≡ n
+none_more n = omega arith
 
 none_one : (n : ℕ) → 0 + n + 1 ≡ suc n
 none_one n = omega arith
@@ -41,9 +49,11 @@ module _ (nx ny steps : ℕ) (m : Answers) where
   abbrev run : RunData
   run = demo_run nx ny steps m
 
+  -- the grids after the items of a step
   after_step : Grids → ℕ → Grids
   after_step g n = fold (grids_after run) g (step_entries n)
 
+  -- a step goes through, and makes the next grid
   step_goes : (g : Grids) (n : ℕ) → IsDemoGrid nx ny n g → (es : List Entry) → GoesThrough run es (after_step g n) → GoesThrough run (step_entries n ++ es) g
   unfolding GoesThrough after_step
   step_goes g n at es rest =
@@ -77,6 +87,7 @@ module _ (nx ny steps : ℕ) (m : Answers) where
       let one : (a + 1) + n ≡ a + suc n = omega arith in
       subst (λ (t : ℕ). IsDemoGrid nx ny t (fold (grids_after run) g (flat_map step_entries (range_with_len a (suc n))))) one (steps_step (after_step g a) (a + 1) n (step_steps g a at))
 
+  -- the grid at the begin
   begins_so : IsDemoGrid nx ny 0 (begin_grids run)
   unfolding begin_grids begin_of domain_of field_of grid_from demo_value
   begins_so j i a b c d =
@@ -87,6 +98,7 @@ module _ (nx ny steps : ℕ) (m : Answers) where
       let row : 1 + (j - 1) - 1 ≡ j - 1 = omega arith in
       rw (width, height, place, get_or-listed 1 ny nx (λ k y x. pos ((37 * (x - 1) + 53 * (y - 1)) % 100)) 0 (j - 1) (i - 1) (omega arith) (omega arith) (omega arith), column, row) refl
 
+  -- and after the first frame
   after_first : Grids
   after_first = grids_after run (begin_grids run) (frame_entry 0)
 
@@ -94,6 +106,7 @@ module _ (nx ny steps : ℕ) (m : Answers) where
   unfolding after_first
   first_so j i a b c d = frame_keeps nx ny steps m (begin_grids run) 0 1 j i ∙ begins_so j i a b c d
 
+  -- the whole script goes through
   script_goes : GoesThrough run (script run) (begin_grids run)
   unfolding GoesThrough after_first
   script_goes = subst (λ (es : List Entry). GoesThrough run es (begin_grids run)) (sym (script-steps nx ny steps m)) (frame_goes nx ny steps m (begin_grids run) 0, steps_go after_first 0 steps first_so)
@@ -103,6 +116,7 @@ module _ (nx ny steps : ℕ) (m : Answers) where
   unfolding outcome_of grids_at
   demo_goes = outcome_from-all run 0 (script run) (begin_grids run) script_goes ∙ ap (λ (es : List Entry). Ok (fold (grids_after run) (begin_grids run) es)) (sym (take-length (script run)))
 
+  -- the grids are those of the steps before
   grids_are : (n : ℕ) → n ≤ steps → grids_at run (3 * n + 1) ≡ fold (grids_after run) after_first (flat_map step_entries (range_with_len 0 n))
   unfolding grids_at after_first
   grids_are n h =
@@ -116,9 +130,19 @@ module _ (nx ny steps : ℕ) (m : Answers) where
       let none : 0 + n ≡ n = omega arith in
       subst (IsDemoGrid nx ny n) (sym (grids_are n h)) (subst (λ (t : ℕ). IsDemoGrid nx ny t (fold (grids_after run) after_first (flat_map step_entries (range_with_len 0 n)))) none (steps_step after_first 0 n first_so))
 
+  -- a frame, and three items a step
   pub length-script : length (script run) ≡ 3 * steps + 1
   length-script = ap length (script-steps nx ny steps m) ∙ ap suc (length-rows step_entries 3 (λ k. refl) 0 steps) ∙ sym (three_more steps)
 
+  -- the items of each step
+  pub step_item : (n c : ℕ) → n < steps → c < 3 → (e : Entry) → get_or (script run) (3 * n + 1 + c) e ≡ get_or (step_entries n) c e
+  step_item n c h few e =
+      ap (λ (es : List Entry). get_or es (3 * n + 1 + c) e) (script-steps nx ny steps m)
+      ∙ ap (λ (k : ℕ). get_or (demo_script steps) k e) (three_on n c)
+      ∙ get_or-rows step_entries 3 (λ k. refl) 0 steps n c e h few
+      ∙ ap (λ (k : ℕ). get_or (step_entries k) c e) (none_more n)
+
+  -- each frame's item
   demo_frame_item : (n : ℕ) → n ≤ steps → (e : Entry) → get_or (demo_script steps) (3 * n) e ≡ frame_entry n
   demo_frame_item zero h e = refl
   demo_frame_item (suc n) h e =
@@ -126,7 +150,6 @@ module _ (nx ny steps : ℕ) (m : Answers) where
       ∙ get_or-rows step_entries 3 (λ k. refl) 0 steps n 2 e (omega arith) (omega arith)
       ∙ ap frame_entry (none_one n)
 
-  -- each frame's item
   pub frame_item : (n : ℕ) → n ≤ steps → (e : Entry) → get_or (script run) (3 * n) e ≡ frame_entry n
   frame_item n h e = ap (λ (es : List Entry). get_or es (3 * n) e) (script-steps nx ny steps m) ∙ demo_frame_item n h e
 

@@ -5,3 +5,12 @@ pub mod Parts
 pub mod Grids
 pub mod Frames
 pub mod Writes
+pub mod Accepted
+pub mod Held
+pub mod Sums
+pub mod Columns
+pub mod Report
+pub mod Command
+pub mod FileSizes
+pub mod Ranged
+pub mod Words

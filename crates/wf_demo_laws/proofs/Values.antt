@@ -37,10 +37,12 @@ weighted-number c w e s n hc hw he hs hn =
     (rw (pos-*ℤ-pos 4 c, in_i64-small (4 * c) (omega arith), in_i64-small (4 * c + w) (omega arith), in_i64-small (4 * c + w + e) (omega arith), in_i64-small (4 * c + w + e + s) (omega arith), in_i64-small (4 * c + w + e + s + n) (omega arith))
     (in_i64-small (weighted c w e s n) (omega arith)))
 
+-- a choice of two stays below what both stay below
 chosen-below : (b : Bool) (x y limit : ℕ) → x < limit → y < limit → (if b then x else y) < limit
 chosen-below true x y limit h k = h
 chosen-below false x y limit h k = k
 
+-- and so does what the expression makes of five
 pub weighted-small : (c w e s n : ℕ) → c < 100 → w < 100 → e < 100 → s < 100 → n < 100 → weighted c w e s n < 100
 weighted-small c w e s n hc hw he hs hn = omega arith
 

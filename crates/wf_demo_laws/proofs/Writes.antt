@@ -1,8 +1,7 @@
 -- The demo's store calls and its summary.
-use Rattle.std.proofs.Common.{◌≡◌, ℕ, zero, suc, ◌+◌, ◌*◌, ◌-◌, ◌<◌, ◌≤◌, Bool, true, false, List, [], ◌∷◌, ◌++◌, map, length, get_or, refl, sym, ap, ◌∙◌, subst, arith, add-one, length-append}
-use Rattle.std.proofs.Math.Nat.{suc-mul, zero-mul}
+use Rattle.std.proofs.Common.{◌≡◌, ℕ, suc, ◌+◌, ◌*◌, ◌-◌, ◌<◌, ◌≤◌, Bool, false, List, [], ◌∷◌, ◌++◌, map, length, refl, sym, ap, ◌∙◌, subst, arith, add-one}
 use Rattle.std.proofs.lemmas.List.FromFn.{length-map-range_with_len}
-use Rattle.std.specs.Prelude.{flat_map, filter, fold, sum, sum_by, ◌==◌, ℤ, pos, if◌then◌else◌}
+use Rattle.std.specs.Prelude.{flat_map, filter, sum, sum_by, ◌==◌, ℤ, pos, if◌then◌else◌}
 use Rattle.std.specs.List.{range_with_len}
 use Rattle.wf_model.specs.declared.demo.Demo.{Demo}
 use Rattle.wf_model.specs.declared.frame.Frame.{Frame}
@@ -12,16 +11,16 @@ use Rattle.wf_model.specs.Plans.{domain_of, field_of, begin_of, up_to}
 use Rattle.wf_model.specs.Grids.{Grid, listed}
 use Rattle.wf_model.specs.Calendar.{time_text}
 use Rattle.wf_model.specs.Streams.{file_list, stream_levels}
-use Rattle.wf_model.specs.Bytes.{four_bytes, slab_bytes, int_bytes, header_bytes}
+use Rattle.wf_model.specs.Bytes.{four_bytes, slab_bytes, header_bytes}
 use Rattle.wf_model.specs.Headers.{file_header, placed}
-use Rattle.wf_model.specs.Files.{StoreCall, create, append, write_at}
-use Rattle.wf_model.specs.Outcome.{RunData, entry_at, no_entry, script, grids_at}
+use Rattle.wf_model.specs.Files.{create, append, write_at}
+use Rattle.wf_model.specs.Outcome.{RunData, entry_at, no_entry, grids_at}
 use Rattle.wf_model.specs.Frames.{slab_of, frames_written}
-use Rattle.wf_model.specs.Writes.{header_of, record_of, frame_calls, writes_of, Summary, summary_of}
+use Rattle.wf_model.specs.Writes.{header_of, record_of, frame_calls, writes_of, summary_of}
 use Rattle.wf_model.specs.DemoCase.{case_start, demo_plan}
 use Rattle.wf_model.specs.Demo.{demo_value, demo_grid, demo_file, demo_header, demo_time, demo_frame, demo_frames, demo_calls, frame_sum, demo_summary}
 use Rattle.wf_laws.proofs.Listing.{length-listed}
-use Rattle.wf_demo_laws.specs.DemoLaws.{demo_run, frame_entry}
+use Rattle.wf_demo_laws.specs.DemoLaws.{demo_run}
 use Rattle.wf_demo_laws.proofs.Parts.{map-range_same, flat_map-range_same, flat_map-map_range, sum-map_range, sum-constant, filter-map_range_none}
 use Rattle.wf_demo_laws.proofs.Grids.{frame_item, grid_at_frame}
 use Rattle.wf_demo_laws.proofs.Frames.{frame_after, frames_of_demo}
@@ -46,6 +45,7 @@ length-time : (n : ℕ) → length (demo_time n) ≡ 20
 unfolding time_text
 length-time n = refl
 
+-- arithmetic of the summary
 none_before : (a b : ℕ) → 0 + a + b ≡ a + b
 none_before a b = omega arith
 
@@ -59,6 +59,7 @@ module _ (nx ny steps : ℕ) (m : Answers) where
   abbrev run : RunData
   run = demo_run nx ny steps m
 
+  -- a frame's numbers, and its bytes
   slab_is : (n : ℕ) → n ≤ steps → slab_of run (frame_after n) 0 ≡ demo_grid nx ny n
   unfolding file_list domain_of field_of
   slab_is n h =
@@ -72,10 +73,12 @@ module _ (nx ny steps : ℕ) (m : Answers) where
   unfolding record_of stream_levels field_of
   record_is n h = ap (λ (values : List ℤ). demo_time n ∷ slab_bytes values ∷ []) (slab_is n h)
 
+  -- the file's header
   header_is : header_of run (frame_after 0) ≡ demo_header nx ny steps
   unfolding entry_at begin_of
   header_is = ap (λ (e : Entry). header_bytes (placed (file_header (demo_plan nx ny steps) 1 0 case_start e.step))) (frame_item nx ny steps m 0 (omega arith) no_entry)
 
+  -- the calls of the first frame, and of the others
   first_calls : frame_calls run (frame_after 0) ≡ create demo_file ∷ append demo_file (demo_header nx ny steps) ∷ demo_frame nx ny 0
   unfolding frame_calls
   first_calls =
@@ -90,6 +93,7 @@ module _ (nx ny steps : ℕ) (m : Answers) where
       ap (λ (b : Bool). (if b then create demo_file ∷ append demo_file (header_of run (frame_after n)) ∷ [] else []) ++ map (append demo_file) (record_of run (frame_after n)) ++ write_at demo_file 4 (four_bytes (n + 1)) ∷ []) later
       ∙ (ap (λ (slabs : List (List ℕ)). map (append demo_file) slabs ++ write_at demo_file 4 (four_bytes (n + 1)) ∷ []) (record_is n (omega arith)))
 
+  -- how many bytes a frame has, and their sum
   record_bytes : (n : ℕ) → n ≤ steps → sum_by length (record_of run (frame_after n)) ≡ 20 + 4 * (nx * ny)
   record_bytes n h =
       ap (sum_by length) (record_is n h)
@@ -99,6 +103,7 @@ module _ (nx ny steps : ℕ) (m : Answers) where
   record_sum n h = ap (sum_by sum) (record_is n h) ∙ none_before (sum (demo_time n)) (sum (slab_bytes (demo_grid nx ny n)))
 
   module _ (few : steps < 1000) where
+    -- all calls, and the parts of the summary
     calls_of_run : writes_of run ≡ create demo_file ∷ append demo_file (demo_header nx ny steps) ∷ demo_frames nx ny (steps + 1)
     unfolding writes_of
     calls_of_run =

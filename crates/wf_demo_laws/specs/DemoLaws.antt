@@ -1,15 +1,24 @@
 -- What the laws of the built-in case say: its short definitions are the general ones of its plan.
-use Rattle.std.specs.Prelude.{◌≡◌, ℕ, ◌+◌, ◌*◌, ◌<◌, ◌≤◌, List, [], ◌∷◌, flat_map, length, pos, Ok}
+use Rattle.std.specs.Prelude.{◌≡◌, ℕ, ◌+◌, ◌*◌, ◌<◌, ◌≤◌, List, [], ◌∷◌, flat_map, length, pos, Option, Some, None, Result, Ok, Err, codes}
 use Rattle.std.specs.List.{range_with_len}
 use Rattle.wf_model.specs.declared.demo.Demo.{Demo}
+use Rattle.wf_model.specs.declared.table.HookName.{HookName}
 use Rattle.wf_model.specs.declared.script.Act.TheVariants.{Table, Emit}
 use Rattle.wf_model.specs.declared.script.Entry.{Entry}
 use Rattle.wf_model.specs.Value.{Answers}
 use Rattle.wf_model.specs.Script.{entry}
 use Rattle.wf_model.specs.Outcome.{RunData, script, grids_at, outcome_of}
 use Rattle.wf_model.specs.Writes.{writes_of, summary_of}
-use Rattle.wf_model.specs.DemoCase.{demo_plan, demo_initial}
-use Rattle.wf_model.specs.Demo.{demo_value, demo_calls, demo_summary}
+use Rattle.wf_model.specs.Files.{Files}
+use Rattle.wf_model.specs.Lockstep.{memory_report}
+use Rattle.wf_model.specs.Ranges.{IsRangedLayout}
+use Rattle.wf_model.specs.Sound.{IsRangedPlan, FilesFit, IsFittingInitial, HasHooks}
+use Rattle.wf_model.specs.Agreement.{IsAccepted}
+use Rattle.wf_model.specs.Answer.{Outside, Command, demo, command_answer, answer_of}
+use Rattle.wf_model.specs.Letters.{Text}
+use Rattle.wf_model.specs.Refusals.{Refusal, refusal}
+use Rattle.wf_model.specs.DemoCase.{demo_plan, demo_initial, columns_layout}
+use Rattle.wf_model.specs.Demo.{demo_value, demo_calls, demo_summary, demo_memories, demo_answer, demo_of, tool_answer}
 
 -- the run of the demo's plan, by its points in x and y and its steps
 abbrev pub demo_run : ℕ → ℕ → ℕ → Answers → RunData
@@ -51,3 +60,38 @@ DemoCallsAreItsWrites = (d : Demo) (m : Answers) → d.steps < 1000 → writes_o
 
 abbrev pub DemoSummaryIsItsRuns : Type 0
 DemoSummaryIsItsRuns = (d : Demo) (m : Answers) → d.steps < 1000 → summary_of (demo_run d.nx d.ny d.steps m) ≡ demo_summary d
+
+-- the plan and its layouts by columns are sound, and the halo check accepts the plan
+abbrev pub DemoIsAccepted : Type 0
+DemoIsAccepted = (nx ny steps px : ℕ) (m : Answers) → 1 ≤ ny → 1 ≤ px → px ≤ nx → IsAccepted (demo_run nx ny steps m) (columns_layout px)
+
+-- the plan, the layout, the files and what the run begins with keep their ranges, and no stored function is used
+pub record IsInRange (nx ny steps px : ℕ) : Type 0 where
+  pub plan : IsRangedPlan (demo_plan nx ny steps)
+  pub files : FilesFit (demo_plan nx ny steps)
+  pub initial : IsFittingInitial (demo_plan nx ny steps) (demo_initial nx ny)
+  pub hooks : (hooks : List HookName) → HasHooks hooks (demo_plan nx ny steps)
+  pub layout : IsRangedLayout (columns_layout px)
+
+abbrev pub DemoIsInRange : Type 0
+DemoIsInRange = (nx ny steps px : ℕ) → 1 ≤ nx → nx ≤ 200 → 1 ≤ ny → ny ≤ 200 → steps ≤ 100000 → 1 ≤ px → px ≤ 256 → IsInRange nx ny steps px
+
+-- with a patch for each column at most
+abbrev pub DemoMemoriesAreItsReport : Type 0
+DemoMemoriesAreItsReport =
+    (d : Demo) (m : Answers) → 1 ≤ d.ny → 1 ≤ d.px → d.px ≤ d.nx → memory_report (demo_run d.nx d.ny d.steps m) (columns_layout d.px) ≡ demo_memories d
+
+-- with a row and a patch
+abbrev pub DemoAnswerIsItsCommands : Type 0
+DemoAnswerIsItsCommands =
+    (outside : Outside) (files : Files) (d : Demo) → 1 ≤ d.ny → 1 ≤ d.px → d.steps < 1000 → command_answer outside files (demo d.nx d.ny d.steps d.px d.each) ≡ demo_answer d
+
+-- how words are read where the demo is the only command
+abbrev pub asked_command : Option Demo → Result Command Refusal
+asked_command None = Err (refusal 1 (codes "usage: wrftool COMMAND [WORDS]" ∷ []))
+asked_command (Some d) = Ok (demo d.nx d.ny d.steps d.px d.each)
+
+-- any words that are read so are answered as the short definitions say
+abbrev pub WordsAreAnsweredByTheDemo : Type 0
+WordsAreAnsweredByTheDemo =
+    (outside : Outside) (files : Files) (words : List Text) → outside.command words ≡ asked_command (demo_of words) → answer_of outside words files ≡ tool_answer words
