@@ -1,7 +1,7 @@
 -- The laws of overflow: what patches name overflows, the owner of the least point names it, and the least that is named is the outcome's.
-use Rattle.std.proofs.Common.{◌≡◌, inl, inr, ℕ, ◌*◌, ◌≤◌, ◌<◌, Bool, true, false, List, [], ◌∷◌, length, get_or, refl, sym, ap, subst, ◌∙◌, arith, Option, Some, None}
+use Rattle.std.proofs.Common.{◌≡◌, ℕ, ◌*◌, ◌≤◌, ◌<◌, Bool, true, length, get_or, refl, sym, ap, subst, ◌∙◌, arith, Option, Some, None}
 use Rattle.std.proofs.Math.Nat.{mul-le-mul_right}
-use Rattle.std.specs.Prelude.{pos, ◌==◌, ◌&&◌, ◌||◌, find, option_map}
+use Rattle.std.specs.Prelude.{pos, ◌==◌, ◌&&◌, find, option_map}
 use Rattle.std.specs.List.{list_any}
 use Rattle.wf_model.specs.declared.layout.Layout.{Layout}
 use Rattle.wf_model.specs.declared.script.Entry.{Entry}
@@ -15,7 +15,7 @@ use Rattle.wf_model.specs.Marks.{all_fresh, marks_after}
 use Rattle.wf_model.specs.Agreement.{IsAccepted, IsUpToOverflow, IsPatch, memory_at}
 use Rattle.wf_laws.specs.Stops.{named_at, domain_at, change_at, NamedPointsOverflow, OwnersNameTheLeastPoint, same_spot, is_named, LeastNamedIsTheOverflow, NoPatchNamesAPointBefore, OutcomeIsTheLeastNamed}
 use Rattle.wf_laws.proofs.Bools.{equal_of, same_number, and_left, and_right, differ}
-use Rattle.wf_laws.proofs.Members.{In, In-range, In-range_out, In-list_any, list_any-In, find-Some, find-None, In-Contains}
+use Rattle.wf_laws.proofs.Members.{In, In-range, In-range_out, In-list_any, list_any-In, find-Some, find-None, In-Contains, list_any-none}
 use Rattle.wf_laws.proofs.Places.{IsRoom, room_of, owner_owns}
 use Rattle.wf_laws.proofs.Right.{AreRight}
 use Rattle.wf_laws.proofs.CentralAll.{EachRight}
@@ -46,10 +46,6 @@ named-Some x (Some y) h = ap Some (sym (same_spot-equal x y h))
 
 none_named : {X : Type 0} {o : Option X} {x : X} → o ≡ None → o ≡ Some x → ⊥
 none_named p q = cc
-
-list_any-none_In : {X : Type 0} (p : X → Bool) (xs : List X) → ((x : X) → In x xs → p x ≡ false) → list_any p xs ≡ false
-list_any-none_In p [] h = refl
-list_any-none_In p (x ∷ xs) h = λ n. h x (inl refl) n || list_any-none_In p xs (λ y t. h y (inr t)) n
 
 module _ (r : RunData) (layout : Layout) (a : IsAccepted r layout) (n : ℕ) (up : IsUpToOverflow r n) (within : n < length (script r)) where
   abbrev split : Split
@@ -132,7 +128,7 @@ module _ (r : RunData) (layout : Layout) (a : IsAccepted r layout) (n : ℕ) (up
   least_is : (o : Option Spot) → overflow_in r.plan (change_at r n) ≡ o → find some_names (spots r.plan (domain_at r n)) ≡ o
   least_is None fine =
       find-None some_names (spots r.plan (domain_at r n))
-      (λ x i. list_any-none_In (λ p. is_named x (named_at r layout n p)) (patches_of (split_of layout)) (λ p h. ap (is_named x) (none_here fine p (patch_below p h))))
+      (λ x i. list_any-none (λ p. is_named x (named_at r layout n p)) (patches_of (split_of layout)) (λ p h. ap (is_named x) (none_here fine p (patch_below p h))))
   least_is (Some x) over =
       let owner : ℕ = owner_of r.plan (split_of layout) (domain_at r n) x.field x.j x.i in
       let o = owner_named x over in
