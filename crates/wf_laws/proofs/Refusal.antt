@@ -31,9 +31,11 @@ phase_level plan ph k top h = at ph.from ph.to (nz plan ph.writes) k top h
     at a b n k top h = (grind arith, grind arith)
 
 module _ (plan : Plan) (a : Asked) (sound : IsSoundPlan plan) (is : IsAsked plan a) where
+  -- the layout of one point a patch
   abbrev finest : Split
   finest = fine plan a.domain
 
+  -- the phase of a read is sound
   phase_sound : IsSoundPhase plan a.phase
   unfolding item_of
   phase_sound = subst (IsSoundItem plan) is.phase (sound.items a.item _ is.within)
@@ -50,6 +52,7 @@ module _ (plan : Plan) (a : Asked) (sound : IsSoundPlan plan) (is : IsAsked plan
       (and_left (is_phase_level plan a.phase k && is_inside (domain_of plan a.domain).periodic_y a.phase.my (ny plan a.domain a.phase.writes) (point_y plan a.domain a.phase.writes j)) _ region)) in
       In-range k 1 (nz plan a.phase.writes) level.0 (omega (arith, level.1))
 
+  -- each patch passes where the test holds
   patch_passes : (p : ℕ) → p < finest.in_x * finest.in_y → is_read_covered plan a ≡ true → is_patch_covered plan a p ≡ true
   unfolding is_read_covered
   patch_passes p hp h = In-list_all (is_patch_covered plan a) p (patches_of (fine plan a.domain)) h (In-range p 0 (finest.in_x * finest.in_y) (omega arith) (omega (arith, hp)))
@@ -69,10 +72,12 @@ module _ (plan : Plan) (a : Asked) (sound : IsSoundPlan plan) (is : IsAsked plan
       (λ c. or_left (not (computes plan (fine plan a.domain) a.domain p a.phase k j i)) _ (ap not c))
       (split_bool (computes plan (fine plan a.domain) a.domain p a.phase k j i))
 
+  -- the test leads to the rule
   test_rule : is_read_covered plan a ≡ true → IsReadCovered plan a
   unfolding IsReadCovered
   test_rule h p k j i hp = cell_passes p k j i hp h
 
+  -- and the rule to the test
   rule_test : IsReadCovered plan a → is_read_covered plan a ≡ true
   unfolding is_read_covered IsReadCovered
   rule_test h =
@@ -82,6 +87,7 @@ module _ (plan : Plan) (a : Asked) (sound : IsSoundPlan plan) (is : IsAsked plan
       (λ k u. list_all-In (λ y. list_all (λ x. is_cell_covered plan a p k y x) (span_list (computed_box plan a p).x)) (span_list (computed_box plan a p).y)
       (λ j v. list_all-In (λ x. is_cell_covered plan a p k j x) (span_list (computed_box plan a p).x) (λ i w. h p k j i (omega (arith, b.1))))))
 
+  -- the item's place in the cycle
   abbrev at : ℕ
   at = length (before_items a.domain) + a.item
 
@@ -113,6 +119,7 @@ module _ (plan : Plan) (a : Asked) (sound : IsSoundPlan plan) (is : IsAsked plan
   parts_of true false w h = (refl, refl, h)
   parts_of false o w h = absurd (differ h)
 
+  -- a cell that fails is stale
   stale_at : (p k : ℕ) (j i : ℤ) → p < finest.in_x * finest.in_y → is_cell_covered plan a p k j i ≡ false → ReadsAStaleCell plan a
   stale_at p k j i hp h =
       let parts = parts_of (computes plan (fine plan a.domain) a.domain p a.phase k j i) (is_own plan (fine plan a.domain) a.domain p a.read.field (j +ℤ a.read.dj) (i +ℤ a.read.di)) _ h in
@@ -127,6 +134,7 @@ module _ (plan : Plan) (a : Asked) (sound : IsSoundPlan plan) (is : IsAsked plan
         stale = λ n. parts.1 n || stale_cell p l (j +ℤ a.read.dj) (i +ℤ a.read.di) parts.2 n;
       }
 
+  -- a refused read has such a cell
   refused_stale : (IsReadCovered plan a → ⊥) → ReadsAStaleCell plan a
   unfolding is_read_covered
   refused_stale refused =

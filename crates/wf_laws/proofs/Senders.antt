@@ -44,6 +44,7 @@ module _ (plan : Plan) (split : Split) (d : ℕ) (room : IsRoom plan split d) wh
       let rx = range_x plan split d room c.field c.j c.i place in
       owner_owns plan split d room c.field (point_y plan d c.field c.j) (point_x plan d c.field c.i) ry.0 ry.1 rx.0 rx.1
 
+  -- of a fetched cell the owner sends
   fetched_sent : (n from to : ℕ) (c : Cell) → In c (filter (λ x. cell_owner plan split d x == from) (fetched_cells plan split d (item_of plan n) to)) → IsSent plan split d from c
   fetched_sent n from to c h =
       let t = In-filter_out (λ (x : Cell). cell_owner plan split d x == from) c (fetched_cells plan split d (item_of plan n) to) h in
@@ -55,6 +56,7 @@ module _ (plan : Plan) (split : Split) (d : ℕ) (room : IsRoom plan split d) wh
         own = subst (λ (q : ℕ). is_own plan split d q c.field (pos (point_y plan d c.field c.j)) (pos (point_x plan d c.field c.i)) ≡ true) (equal_of (cell_owner plan split d c) from t.1) (owner_there c point.place).1;
       }
 
+  -- an own cell is the cell of its point
   own_at_point : (from : ℕ) (c : Cell) → is_in_domain plan d c.field c.j c.i ≡ true → is_own plan split d from c.field c.j c.i ≡ true →
       is_own plan split d from c.field (pos (point_y plan d c.field c.j)) (pos (point_x plan d c.field c.i)) ≡ true
   own_at_point from c inside own = (λ n. is_own plan split d from c.field (domain_y plan d c.field c.j c.i inside n) (domain_x plan d c.field c.j c.i inside n)) ∙ own
@@ -69,6 +71,7 @@ module _ (plan : Plan) (split : Split) (d : ℕ) (room : IsRoom plan split d) wh
       (In-cells plan c.field c.k (own_box plan split d from c.field) c.j c.i l u own))
       (list_any-In (same_cell c) c asked h (same_cell-same c))
 
+  -- of an asked cell the owner sends
   among_sent : (from : ℕ) (asked : List Cell) (c : Cell) → from < split.in_x * split.in_y → In c (owned_among plan split d from asked) → IsSent plan split d from c
   among_sent from asked c hq h =
       let own = among_out plan split d from asked c h in

@@ -27,6 +27,7 @@ use Rattle.wf_laws.proofs.GoOn.{overflow-none}
 use Rattle.wf_laws.proofs.Least.{find-first, spot_level, goes_on, named_over, names_least}
 use Rattle.wf_laws.proofs.Names.{Names, silent, names, names_of}
 
+-- points that the test finds the same are equal
 same_spot-equal : (x y : Spot) → same_spot x y ≡ true → x ≡ y
 same_spot-equal x y h =
     let f : x.field ≡ y.field = equal_of x.field y.field (and_left (x.field == y.field) _ h) in
@@ -37,20 +38,25 @@ same_spot-equal x y h =
     let i : x.i ≡ y.i = equal_of x.i y.i (and_right (x.j == y.j) (x.i == y.i) last) in
     λ n. record { field = f n; k = k n; j = j n; i = i n }
 
+-- a point is the same as itself
 same_spot-same : (x : Spot) → same_spot x x ≡ true
 same_spot-same x = λ n. same_number x.field n && (same_number x.k n && (same_number x.j n && same_number x.i n))
 
+-- a point that is named
 named-Some : (x : Spot) (o : Option Spot) → is_named x o ≡ true → o ≡ Some x
 named-Some x None h = absurd (differ (sym h))
 named-Some x (Some y) h = ap Some (sym (same_spot-equal x y h))
 
+-- none is not some
 none_named : {X : Type 0} {o : Option X} {x : X} → o ≡ None → o ≡ Some x → ⊥
 none_named p q = cc
 
 module _ (r : RunData) (layout : Layout) (a : IsAccepted r layout) (n : ℕ) (up : IsUpToOverflow r n) (within : n < length (script r)) where
+  -- how the domains are cut
   abbrev split : Split
   split = split_of layout
 
+  -- the entry at the place
   abbrev here : Entry
   here = get_or (script r) n no_entry
 
@@ -65,11 +71,13 @@ module _ (r : RunData) (layout : Layout) (a : IsAccepted r layout) (n : ℕ) (up
     };
   }
 
+  -- what a patch names at the place
   names_here : (p : ℕ) → IsPatch layout p → Names r (split_of layout) here (grids_at r n) (memory_at r layout n) p here.act
   names_here p hp =
       names_of r (split_of layout) a.sound a.covered (rooms r layout a.sound a.laid a.covered) (turns r layout a.sound a.laid a.covered n) (grids_at r n) (memory_at r layout n) each_now here
       (kind_at r.plan (script-follows_all r.plan a.sound r.initial.begins) n no_entry within) p hp
 
+  -- what it names overflows
   named_overflows : (p : ℕ) (x : Spot) → IsPatch layout p → named_at r layout n p ≡ Some x → In x (spots r.plan (domain_at r n)) × (overflows_at (change_at r n) x ≡ true)
   unfolding entry_at change_of
   named_overflows p x hp h = at (names_here p hp)
@@ -92,6 +100,7 @@ module _ (r : RunData) (layout : Layout) (a : IsAccepted r layout) (n : ℕ) (up
     domain : IsDomain r.plan (domain_at r n)
     first : find (overflows_at (change_at r n)) (spots r.plan (domain_at r n)) ≡ Some x
 
+  -- so at each point that overflows
   is_where : (x : Spot) → overflow_in r.plan (change_at r n) ≡ Some x → IsWhere x
   unfolding entry_at change_of
   is_where x over = at (names_here 0 (some_patch layout.nproc_x layout.nproc_y a.laid.some_x a.laid.some_y))
@@ -119,12 +128,15 @@ module _ (r : RunData) (layout : Layout) (a : IsAccepted r layout) (n : ℕ) (up
       at room p hp own (silent q fine) = absurd (none_named fine over)
       at room p hp own (names s q is agrees) = q ∙ names_least r.plan (split_of layout) (domain_at r n) p s (change_at r n) agrees room hp x over own
 
+  -- some patch names the point
   abbrev some_names : Spot → Bool
   some_names x = list_any (λ p. is_named x (named_at r layout n p)) (patches_of (split_of layout))
 
+  -- a patch's number
   patch_below : (p : ℕ) → In p (patches_of (split_of layout)) → IsPatch layout p
   patch_below p h = let b = In-range_out p 0 (layout.nproc_x * layout.nproc_y) h in omega (arith, b.1)
 
+  -- the least point that is named is the overflow
   least_is : (o : Option Spot) → overflow_in r.plan (change_at r n) ≡ o → find some_names (spots r.plan (domain_at r n)) ≡ o
   least_is None fine =
       find-None some_names (spots r.plan (domain_at r n))
