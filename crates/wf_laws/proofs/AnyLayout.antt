@@ -61,6 +61,7 @@ pub record IsAsked (plan : Plan) (a : Asked) : Type 0 where
   pub phase : item_of plan a.item ≡ item.Phase a.phase
   pub read : In a.read (reads_of a.phase.expr)
 
+-- a read of one item
 asked_here : (plan : Plan) (d n : ℕ) (it : Item) (a : Asked) → IsDomain plan d → n < length plan.items → item_of plan n ≡ it → In a (asked_of d n it) → IsAsked plan a
 asked_here plan d n (item.Halo parts) a is w e h = absurd h
 asked_here plan d n (item.Period parts) a is w e h = absurd h
@@ -85,6 +86,7 @@ asked_out plan a h =
     zero_left n = omega arith
 
 module _ (plan : Plan) (sound : IsSoundPlan plan) (split : Split) (a : Asked) (room : IsRoom plan split a.domain) (is : IsAsked plan a) (covered : IsCovered plan) where
+  -- the domain
   abbrev d : ℕ
   d = a.domain
 

@@ -2,6 +2,7 @@
 use Rattle.std.proofs.Common.{◌≡◌, ℕ, suc, ◌+◌, ◌-◌, ◌*◌, ◌/◌, ◌%◌, ◌<◌, ◌≤◌, ap, arith}
 use Rattle.std.proofs.Math.Nat.{div-lt_iff_lt-mul, le-div_iff_mul-le, mod-add-div', mul_comm, mod-lt, div-mul-le_self, suc-mul, add-mul, mul-le-mul_right}
 
+-- less than one more is at most
 lt_suc : {a b : ℕ} → a < suc b → a ≤ b
 lt_suc h = omega arith
 

@@ -14,6 +14,7 @@ use Rattle.wf_laws.proofs.Runs.{grids_at_more, outcome_from-Ok}
 pub record IsClean (r : RunData) (n : ℕ) : Type 0 where
   pub clean : (m : ℕ) → m < n → overflow_of r (get_or (script r) m no_entry) (grids_at r m) ≡ None
 
+-- no item of a run without an overflow overflows
 clean_Ok : (r : RunData) (k : ℕ) (es : List Entry) (g h : Grids) (m : ℕ) (c : Entry) → outcome_from r k es g ≡ Ok h → m < length es → overflow_of r (get_or es m c) (fold (grids_after r) g (take m es)) ≡ None
 unfolding outcome_from
 clean_Ok r k [] g h m c p l = absurd (omega arith)
@@ -28,9 +29,11 @@ clean_Ok r k (e ∷ es) g h (suc m) c p l =
       | Some x ↦ λ q. grind arith
     ]) p
 
+-- the place of an overflow at once
 same_place : {x : Point} {o : Overflow} {k : ℕ} → ◌≡◌ {A = Result Grids Overflow} (Err (record { place = k; point = x })) (Err o) → k ≡ o.place
 same_place {x = x} {o = o} {k = k} q = let e : record { place = k; point = x } ≡ o = cc in ap (λ (y : Overflow). y.place) e
 
+-- an overflow stands at the place of one of the items
 place_from : (r : RunData) (k : ℕ) (es : List Entry) (g : Grids) (o : Overflow) → outcome_from r k es g ≡ Err o → (k ≤ o.place) × (o.place < k + length es)
 unfolding outcome_from
 place_from r k [] g o p = grind arith
@@ -40,6 +43,7 @@ place_from r k (e ∷ es) g o p =
       | Some x ↦ λ q. let is : k ≡ o.place = same_place q in (omega (arith, is), omega (arith, is))
     ]) p
 
+-- no item before an overflow overflows
 clean_Err : (r : RunData) (k : ℕ) (es : List Entry) (g : Grids) (o : Overflow) (m : ℕ) (c : Entry) → outcome_from r k es g ≡ Err o → k + m < o.place → overflow_of r (get_or es m c) (fold (grids_after r) g (take m es)) ≡ None
 unfolding outcome_from
 clean_Err r k [] g o m c p l = grind arith
@@ -69,6 +73,7 @@ pub place-Err : (r : RunData) (o : Overflow) → outcome_of r ≡ Err o → o.pl
 unfolding outcome_of
 place-Err r o p = omega (arith, (place_from r 0 (script r) (begin_grids r) o p).1)
 
+-- all of a list
 take_all : {X : Type 0} (xs : List X) → take (length xs) xs ≡ xs
 take_all [] = refl
 take_all (x ∷ xs) = ap (λ (ys : List _). x ∷ ys) (take_all xs)
@@ -95,9 +100,11 @@ point_from r k (e ∷ es) g o (suc m) c p l =
       | Some x ↦ λ q. let is : k ≡ o.place = same_place q in absurd (omega arith)
     ]) p
 
+-- a place that is not past another
 not_past : (m n : ℕ) → m ≤ n → nat_lt n m ≡ false
 not_past m n h = grind arith
 
+-- and back
 from_past : (m n : ℕ) → nat_lt n m ≡ false → m ≤ n
 from_past m n h = grind arith
 

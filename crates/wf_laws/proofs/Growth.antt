@@ -38,32 +38,39 @@ block_holds p n len more hn room = at (p * len / n) ((p + 1) * len / n) (if p + 
     at a b m h = omega (arith, ints)
 
 module _ (plan : Plan) (sound : IsSoundPlan plan) (big : Split) (d q p : ℕ) (room : IsRoom plan big d) (part : IsPartOf plan (fine plan d) big d q p) where
+  -- the domain is not empty in x
   wide : 0 < (domain_of plan d).ide - 1
   wide = omega (arith, room.some_x, room.room_x)
 
+  -- nor in y
   high : 0 < (domain_of plan d).jde - 1
   high = omega (arith, room.some_y, room.room_y)
 
+  -- the smaller patch's own box is not empty in x
   some_x : (f : ℕ) → (own_box plan (fine plan d) d q f).x.low <ℤ (own_box plan (fine plan d) d q f).x.high
   unfolding own_box
   some_x f = block_holds (q % ((domain_of plan d).ide - 1)) ((domain_of plan d).ide - 1) ((domain_of plan d).ide - 1) (nx plan d f - ((domain_of plan d).ide - 1)) wide (omega arith)
 
+  -- nor in y
   some_y : (f : ℕ) → (own_box plan (fine plan d) d q f).y.low <ℤ (own_box plan (fine plan d) d q f).y.high
   unfolding own_box
   some_y f = block_holds (q / ((domain_of plan d).ide - 1)) ((domain_of plan d).jde - 1) ((domain_of plan d).jde - 1) (ny plan d f - ((domain_of plan d).jde - 1)) high (omega arith)
 
+  -- it lies in the larger one's, in x
   within_x : (f : ℕ) → IsIn (own_box plan (fine plan d) d q f).x (own_box plan big d p f).x
   unfolding is_own
   within_x f =
       IsIn-of (own_box plan (fine plan d) d q f).x (own_box plan big d p f).x (some_x f)
       (λ c h. and_right _ _ (part f (own_box plan (fine plan d) d q f).y.low c (and_both _ _ (span-in (own_box plan (fine plan d) d q f).y (own_box plan (fine plan d) d q f).y.low (omega (arith, ints)) (some_y f)) h)))
 
+  -- and in y
   within_y : (f : ℕ) → IsIn (own_box plan (fine plan d) d q f).y (own_box plan big d p f).y
   unfolding is_own
   within_y f =
       IsIn-of (own_box plan (fine plan d) d q f).y (own_box plan big d p f).y (some_y f)
       (λ c h. and_left _ _ (part f c (own_box plan (fine plan d) d q f).x.low (and_both _ _ h (span-in (own_box plan (fine plan d) d q f).x (own_box plan (fine plan d) d q f).x.low (omega (arith, ints)) (some_x f)))))
 
+  -- so what is fresh for the one is fresh for the other
   grows_fresh : (f k : ℕ) (j i : ℤ) (ts : List Turn) → ((x : Turn) → In x ts → In x (cycle_of plan d)) →
       is_fresh plan (fine plan d) d q (marks_after plan (fine plan d) d q ts all_fresh) f k j i ≡ true → is_fresh plan big d p (marks_after plan big d p ts all_fresh) f k j i ≡ true
   grows_fresh f k j i ts items h =

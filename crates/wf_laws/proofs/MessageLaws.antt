@@ -54,6 +54,7 @@ fetched_once plan layout e n to c laid is act h =
     (λ q t. subst (λ (a : Act). In c (carried plan (split_of layout) e a q to)) act (Contains-In c (carried plan (split_of layout) e e.act q to) t))
     (table_once plan layout e n to c (room_of plan layout laid e.domain is) (Contains-In c (fetched_cells plan (split_of layout) e.domain (item_of plan n) to) h))
 
+-- what is carried is fetched
 carried_fetched : (plan : Plan) (split : Split) (e : Entry) (n from to : ℕ) (c : Cell) → In c (carried plan split e (Table n) from to) → In c (fetched_cells plan split e.domain (item_of plan n) to)
 unfolding carried
 carried_fetched plan split e n from to c h = (In-filter_out (λ (x : Cell). cell_owner plan split e.domain x == from) c (fetched_cells plan split e.domain (item_of plan n) to) h).0
@@ -99,12 +100,15 @@ map-In f g [] h = refl
 map-In f g (x ∷ xs) h = λ n. h x (inl refl) n ∷ map-In f g xs (λ y t. h y (inr t)) n
 
 module _ (r : RunData) (layout : Layout) (a : IsAccepted r layout) (n : ℕ) (within : n < length (script r)) (from to : ℕ) (hq : IsPatch layout from) where
+  -- the entry
   abbrev e : Entry
   e = entry_at r n
 
+  -- the domain
   abbrev d : ℕ
   d = sender_of r.plan (entry_at r n) (entry_at r n).act
 
+  -- the cells that the message carries
   abbrev cells : List Cell
   cells = carried r.plan (split_of layout) (entry_at r n) (entry_at r n).act from to
 
@@ -125,9 +129,11 @@ module _ (r : RunData) (layout : Layout) (a : IsAccepted r layout) (n : ℕ) (wi
   sent_cell : (is : IsDomain r.plan d) (c : Cell) → In c cells → IsSent r.plan (split_of layout) d from c
   sent_cell is c h = carried_sent r.plan (split_of layout) (entry_at r n) (entry_at r n).act (room_of r.plan layout a.laid d is) from to c hq h
 
+  -- so a message has the grids' numbers up to the first overflow
   grids_sent : IsUpToOverflow r n → IsDomain r.plan d → map (memory_point r.plan d (memory_at r layout n d from)) cells ≡ map (grid_cell r.plan d (grids_at r n)) cells
   grids_sent up is = map-In (memory_point r.plan d (memory_at r layout n d from)) (grid_cell r.plan d (grids_at r n)) cells (λ c h. sent_grid is up c (sent_cell is c h))
 
+  -- and the message's numbers at each place
   numbers_sent : IsDomain r.plan d → map (memory_point r.plan d (memory_at r layout n d from)) cells ≡ map (grid_cell r.plan d (numbers_at r layout n)) cells
   unfolding numbers_at
   numbers_sent is =

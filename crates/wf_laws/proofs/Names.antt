@@ -37,13 +37,16 @@ nothing_fine : (plan : Plan) → overflow_in plan nothing ≡ None
 unfolding nothing
 nothing_fine plan = find-None (overflows_at nothing) (spots plan 0) (λ x i. refl)
 
+-- a swap does not overflow
 swap_fine : (plan : Plan) (g : Grids) (d one two : ℕ) → overflow_in plan (swap_change g d one two) ≡ None
 swap_fine plan g d one two = find-None (overflows_at (swap_change g d one two)) (spots plan d) (λ x i. and_false ((x.field == one) || (x.field == two)) false refl)
 
+-- the first of two, where the second is none
 or_none : {X : Type 0} (o p : Option X) → p ≡ None → option_or o p ≡ o
 or_none None p e = e
 or_none (Some x) p e = refl
 
+-- the second of two, where the first is none
 none_or : {X : Type 0} (o p : Option X) → o ≡ None → option_or o p ≡ p
 none_or o p e = ap (λ (x : _). option_or x p) e
 
@@ -68,10 +71,12 @@ module _ (r : RunData) (split : Split) (e : Entry) (g : Grids) (ms : Memories) (
     names : (s : Setting) → option_or (computed_by act) (taken_by act) ≡ least_failure r.plan split (receiver_of r.plan e act) p s → IsDomain r.plan (receiver_of r.plan e act) →
         Agrees r.plan split (receiver_of r.plan e act) p s (act_change r g e act) → Names act
 
+  -- at an emit
   names_emit : (s : ℕ) → Names (Emit s)
   names_emit s = silent (none_or _ _ (nothing_goes r.plan split e.domain p) ∙ nothing_goes r.plan split e.domain p) (nothing_fine r.plan)
 
   module _ (sound : IsSoundPlan r.plan) (covered : IsCovered r.plan) (hp : p < split.in_x * split.in_y) where
+    -- an item of the table, by its kind
     names_item : (n : ℕ) (ts : List Turn) → IsNext r split sound e.domain n ts → AllRight r split sound e.domain ts g (ms e.domain) → (it : Item) → item_of r.plan n ≡ it → IsSoundItem r.plan it →
         (s : Setting) → s ≡ item_setting r split e.domain p e.step it (ms e.domain p) → Agrees r.plan split e.domain p s (table_change r.plan r.answers g e.domain e.step it) ⊎ ((least_failure r.plan split e.domain p s ≡ None) × (overflow_in r.plan (table_change r.plan r.answers g e.domain e.step it) ≡ None))
     unfolding table_change
@@ -92,6 +97,7 @@ module _ (r : RunData) (split : Split) (e : Entry) (g : Grids) (ms : Memories) (
         (names_item n ts next all (item_of r.plan n) refl (item_sound r split sound n next.within) (item_setting r split e.domain p e.step (item_of r.plan n) (ms e.domain p)) refl)
 
     module _ (rooms : (d : ℕ) → IsDomain r.plan d → IsRoom r.plan split d) (ts : ℕ → List Turn) (each : EachRight r split sound covered rooms ts g ms) (is : IsDomain r.plan e.domain) where
+      -- the nest's parent
       abbrev parent : ℕ
       parent = (domain_of r.plan e.domain).parent
 

@@ -29,9 +29,11 @@ use Rattle.wf_laws.proofs.StopLaws.{each_now}
 
 module _ (r : RunData) (split : Split) (sound : IsSoundPlan r.plan) (covered : IsCovered r.plan) (rooms : (d : ℕ) → IsDomain r.plan d → IsRoom r.plan split d) (ts : ℕ → List Turn) (g : Grids) (ms : Memories)
     (each : EachRight r split sound covered rooms ts g ms) (e : Entry) (p : ℕ) (is : IsDomain r.plan e.domain) (nest : 1 < e.domain) where
+  -- the nest's parent
   abbrev parent : ℕ
   parent = (domain_of r.plan e.domain).parent
 
+  -- the parent is a domain of the plan
   up : IsDomain r.plan (domain_of r.plan e.domain).parent
   up = (sound.nests e.domain nest is).parent
 
@@ -65,6 +67,7 @@ record IsNest (r : RunData) (e : Entry) : Type 0 where
   domain : IsDomain r.plan e.domain
   nest : 1 < e.domain
 
+-- an entry that is no item of the table and no emit is a nest item
 nest_of : (r : RunData) {ts : ℕ → List Turn} (e : Entry) → Kind r.plan ts e → ((n : ℕ) → e.act ≡ Table n → ⊥) → ((s : ℕ) → e.act ≡ Emit s → ⊥) → IsNest r e
 nest_of r e (emit s a) t m = absurd (m s a)
 nest_of r e (item_at n is a w q) t m = absurd (t n a)
@@ -72,21 +75,27 @@ nest_of r e (start is nest a empty) t m = record { domain = is; nest = nest }
 nest_of r e (force is nest a) t m = record { domain = is; nest = nest }
 nest_of r e (feedback is nest a) t m = record { domain = is; nest = nest }
 
+-- a start is no item of the table
 start_table : {act : Act} → act ≡ Start → (n : ℕ) → act ≡ Table n → ⊥
 start_table e n q = cc
 
+-- and no emit
 start_emit : {act : Act} → act ≡ Start → (s : ℕ) → act ≡ Emit s → ⊥
 start_emit e s q = cc
 
+-- a force is no item of the table
 force_table : {act : Act} → act ≡ Force → (n : ℕ) → act ≡ Table n → ⊥
 force_table e n q = cc
 
+-- and no emit
 force_emit : {act : Act} → act ≡ Force → (s : ℕ) → act ≡ Emit s → ⊥
 force_emit e s q = cc
 
+-- a feedback is no item of the table
 feedback_table : {act : Act} → act ≡ Feedback → (n : ℕ) → act ≡ Table n → ⊥
 feedback_table e n q = cc
 
+-- and no emit
 feedback_emit : {act : Act} → act ≡ Feedback → (s : ℕ) → act ≡ Emit s → ⊥
 feedback_emit e s q = cc
 

@@ -20,9 +20,11 @@ after_others r n es fs g h p = outcome_from-append r n es fs g h p
 pub all_written : AllFramesAreWritten
 all_written r g p = frames_written-Ok r g p
 
+-- the test of less
 before_is : (m n : ℕ) → nat_lt m n ≡ true → m < n
 before_is m n h = grind arith
 
+-- and back
 is_before : (m n : ℕ) → m < n → nat_lt m n ≡ true
 is_before m n h = grind arith
 

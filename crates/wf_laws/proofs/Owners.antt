@@ -13,6 +13,7 @@ use Rattle.wf_laws.proofs.Spans.{span-low, span-high, owner_span, none_if}
 use Rattle.wf_laws.proofs.Places.{IsRoom, room_of, patch_x, patch_y, own-domain, owner_owns}
 use Rattle.wf_laws.proofs.Reach.{own_memory}
 
+-- numbers are less, greater or equal
 three : (a b : ℕ) → (a < b) ⊎ ((b < a) ⊎ (a ≡ b))
 three a b = grind arith
 

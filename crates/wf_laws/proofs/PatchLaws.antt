@@ -11,7 +11,7 @@ use Rattle.wf_model.specs.Agreement.{IsAccepted, IsUpToOverflow, IsPatch, memory
 use Rattle.wf_laws.specs.Patches.{NoPatchStops, MailIsOfEarlierPlaces, OwnCellsHoldTheGrids, FreshCellsHoldTheGrids, PhasesReadFreshCells, PatchesComputeTheGridsValues}
 use Rattle.wf_laws.proofs.Members.{Contains-In}
 use Rattle.wf_laws.proofs.FirstOverflow.{clean_up_to}
-use Rattle.wf_laws.proofs.Dues.{count_is}
+use Rattle.wf_laws.proofs.HalvesBefore.{count_is}
 use Rattle.wf_laws.proofs.Right.{AreRight, read_reaches, computed_value}
 use Rattle.wf_laws.proofs.AllDomains.{rooms}
 use Rattle.wf_laws.proofs.WholeRun.{stand, own_right, fresh_right, domain_right, memory_is, phase_ready}

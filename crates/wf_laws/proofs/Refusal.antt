@@ -1,5 +1,5 @@
 -- The test of a read is the rule, and a read that the rule refuses meets a cell that is not fresh.
-use Rattle.std.proofs.Common.{◌≡◌, inl, inr, ⊎_elim, ℕ, ◌+◌, ◌*◌, ◌≤◌, ◌<◌, Bool, true, false, List, [], ◌∷◌, ◌++◌, length, reverse, take, drop, refl, sym, ap, subst, ◌∙◌, arith, append_assoc}
+use Rattle.std.proofs.Common.{◌≡◌, ⊎_elim, ℕ, ◌+◌, ◌*◌, ◌≤◌, ◌<◌, Bool, true, false, List, ◌++◌, length, reverse, take, drop, refl, sym, ap, subst, ◌∙◌, arith, append_assoc}
 use Rattle.std.proofs.Math.ListN.{take-append-drop}
 use Rattle.std.proofs.lemmas.List.{reverse-append}
 use Rattle.std.specs.Prelude.{ℤ, ◌+ℤ◌, ◌&&◌, ◌||◌, ◌==◌, not, if◌then◌else◌}
@@ -15,29 +15,13 @@ use Rattle.wf_model.specs.Covered.{Asked, all_asked, is_cell_covered, IsReadCove
 use Rattle.wf_model.specs.Uncovered.{computed_box, is_patch_covered, is_read_covered}
 use Rattle.wf_model.specs.Sound.{IsSoundItem, IsSoundPhase, IsSoundPlan}
 use Rattle.wf_laws.specs.Walks.{ReadTestIsTheRule, third_cycle, ReadsAStaleCell, RefusedReadsAreStale}
-use Rattle.wf_laws.proofs.Bools.{and_left, and_right, and_both, or_left, split_bool, differ}
-use Rattle.wf_laws.proofs.Members.{In, In-range, In-range_out, Contains-In}
+use Rattle.wf_laws.proofs.Bools.{and_left, and_right, or_left, split_bool, differ}
+use Rattle.wf_laws.proofs.Members.{In, In-range, In-range_out, Contains-In, list_all-In, In-list_all, list_all-not}
 use Rattle.wf_laws.proofs.Cells.{In-span}
 use Rattle.wf_laws.proofs.PhaseStep.{computes-region, region-in}
 use Rattle.wf_laws.proofs.Right.{computes-in}
 use Rattle.wf_laws.proofs.Grows.{walk-shorter}
 use Rattle.wf_laws.proofs.AnyLayout.{marks_agree, IsAsked, asked_out}
-
--- what a test finds of all, it finds of each
-all-In : {X : Type 0} (test : X → Bool) (x : X) (xs : List X) → list_all test xs ≡ true → In x xs → test x ≡ true
-all-In test x [] h t = absurd t
-all-In test x (y ∷ xs) h t = ⊎_elim (λ e. ap test e ∙ and_left (test y) _ h) (λ u. all-In test x xs (and_right (test y) (list_all test xs) h) u) t
-
--- and what it finds of each, of all
-In-all : {X : Type 0} (test : X → Bool) (xs : List X) → ((x : X) → In x xs → test x ≡ true) → list_all test xs ≡ true
-In-all test [] h = refl
-In-all test (x ∷ xs) h = and_both (test x) (list_all test xs) (h x (inl refl)) (In-all test xs (λ y t. h y (inr t)))
-
--- where it does not hold of all, there is one of which it does not
-not-all : {X : Type 0} (test : X → Bool) (xs : List X) → list_all test xs ≡ false → (x : X) × In x xs × (test x ≡ false)
-not-all test [] h = absurd (differ h)
-not-all test (x ∷ xs) h =
-    ⊎_elim (λ t. let r = not-all test xs (ap (λ b. b && list_all test xs) (sym t) ∙ h) in (r.0, inr r.1, r.2)) (λ t. (x, inl refl, t)) (split_bool (test x))
 
 -- a level of a phase's region is one of its field's
 phase_level : (plan : Plan) (ph : Phase) (k : ℕ) → ph.to ≤ nz plan ph.writes → is_phase_level plan ph k ≡ true → (1 ≤ k) × (k ≤ nz plan ph.writes)
@@ -47,9 +31,11 @@ phase_level plan ph k top h = at ph.from ph.to (nz plan ph.writes) k top h
     at a b n k top h = (grind arith, grind arith)
 
 module _ (plan : Plan) (a : Asked) (sound : IsSoundPlan plan) (is : IsAsked plan a) where
+  -- the layout of one point a patch
   abbrev finest : Split
   finest = fine plan a.domain
 
+  -- the phase of a read is sound
   phase_sound : IsSoundPhase plan a.phase
   unfolding item_of
   phase_sound = subst (IsSoundItem plan) is.phase (sound.items a.item _ is.within)
@@ -66,9 +52,10 @@ module _ (plan : Plan) (a : Asked) (sound : IsSoundPlan plan) (is : IsAsked plan
       (and_left (is_phase_level plan a.phase k && is_inside (domain_of plan a.domain).periodic_y a.phase.my (ny plan a.domain a.phase.writes) (point_y plan a.domain a.phase.writes j)) _ region)) in
       In-range k 1 (nz plan a.phase.writes) level.0 (omega (arith, level.1))
 
+  -- each patch passes where the test holds
   patch_passes : (p : ℕ) → p < finest.in_x * finest.in_y → is_read_covered plan a ≡ true → is_patch_covered plan a p ≡ true
   unfolding is_read_covered
-  patch_passes p hp h = all-In (is_patch_covered plan a) p (patches_of (fine plan a.domain)) h (In-range p 0 (finest.in_x * finest.in_y) (omega arith) (omega (arith, hp)))
+  patch_passes p hp h = In-list_all (is_patch_covered plan a) p (patches_of (fine plan a.domain)) h (In-range p 0 (finest.in_x * finest.in_y) (omega arith) (omega (arith, hp)))
 
   -- a point that the test goes over passes, and one that no patch computes passes anyway
   cell_passes : (p k : ℕ) (j i : ℤ) → p < finest.in_x * finest.in_y → is_read_covered plan a ≡ true → is_cell_covered plan a p k j i ≡ true
@@ -78,26 +65,29 @@ module _ (plan : Plan) (a : Asked) (sound : IsSoundPlan plan) (is : IsAsked plan
       let box = computes-in plan (fine plan a.domain) a.domain p a.phase k j i c in
       let in_y : in_span (computed_box plan a p).y j ≡ true = and_left (in_span (computed_box plan a p).y j) (in_span (computed_box plan a p).x i) box in
       let in_x : in_span (computed_box plan a p).x i ≡ true = and_right (in_span (computed_box plan a p).y j) (in_span (computed_box plan a p).x i) box in
-      all-In (λ x. is_cell_covered plan a p k j x) i (span_list (computed_box plan a p).x)
-      (all-In (λ y. list_all (λ x. is_cell_covered plan a p k y x) (span_list (computed_box plan a p).x)) j (span_list (computed_box plan a p).y)
-      (all-In (λ m. list_all (λ y. list_all (λ x. is_cell_covered plan a p m y x) (span_list (computed_box plan a p).x)) (span_list (computed_box plan a p).y)) k (up_to (nz plan a.phase.writes))
+      In-list_all (λ x. is_cell_covered plan a p k j x) i (span_list (computed_box plan a p).x)
+      (In-list_all (λ y. list_all (λ x. is_cell_covered plan a p k y x) (span_list (computed_box plan a p).x)) j (span_list (computed_box plan a p).y)
+      (In-list_all (λ m. list_all (λ y. list_all (λ x. is_cell_covered plan a p m y x) (span_list (computed_box plan a p).x)) (span_list (computed_box plan a p).y)) k (up_to (nz plan a.phase.writes))
       (patch_passes p hp h) (level_there p k j i c)) (In-span (computed_box plan a p).y j in_y)) (In-span (computed_box plan a p).x i in_x))
       (λ c. or_left (not (computes plan (fine plan a.domain) a.domain p a.phase k j i)) _ (ap not c))
       (split_bool (computes plan (fine plan a.domain) a.domain p a.phase k j i))
 
+  -- the test leads to the rule
   test_rule : is_read_covered plan a ≡ true → IsReadCovered plan a
   unfolding IsReadCovered
   test_rule h p k j i hp = cell_passes p k j i hp h
 
+  -- and the rule to the test
   rule_test : IsReadCovered plan a → is_read_covered plan a ≡ true
   unfolding is_read_covered IsReadCovered
   rule_test h =
-      In-all (is_patch_covered plan a) (patches_of (fine plan a.domain))
+      list_all-In (is_patch_covered plan a) (patches_of (fine plan a.domain))
       (λ p t. let b = In-range_out p 0 (finest.in_x * finest.in_y) t in
-      In-all (λ m. list_all (λ y. list_all (λ x. is_cell_covered plan a p m y x) (span_list (computed_box plan a p).x)) (span_list (computed_box plan a p).y)) (up_to (nz plan a.phase.writes))
-      (λ k u. In-all (λ y. list_all (λ x. is_cell_covered plan a p k y x) (span_list (computed_box plan a p).x)) (span_list (computed_box plan a p).y)
-      (λ j v. In-all (λ x. is_cell_covered plan a p k j x) (span_list (computed_box plan a p).x) (λ i w. h p k j i (omega (arith, b.1))))))
+      list_all-In (λ m. list_all (λ y. list_all (λ x. is_cell_covered plan a p m y x) (span_list (computed_box plan a p).x)) (span_list (computed_box plan a p).y)) (up_to (nz plan a.phase.writes))
+      (λ k u. list_all-In (λ y. list_all (λ x. is_cell_covered plan a p k y x) (span_list (computed_box plan a p).x)) (span_list (computed_box plan a p).y)
+      (λ j v. list_all-In (λ x. is_cell_covered plan a p k j x) (span_list (computed_box plan a p).x) (λ i w. h p k j i (omega (arith, b.1))))))
 
+  -- the item's place in the cycle
   abbrev at : ℕ
   at = length (before_items a.domain) + a.item
 
@@ -129,6 +119,7 @@ module _ (plan : Plan) (a : Asked) (sound : IsSoundPlan plan) (is : IsAsked plan
   parts_of true false w h = (refl, refl, h)
   parts_of false o w h = absurd (differ h)
 
+  -- a cell that fails is stale
   stale_at : (p k : ℕ) (j i : ℤ) → p < finest.in_x * finest.in_y → is_cell_covered plan a p k j i ≡ false → ReadsAStaleCell plan a
   stale_at p k j i hp h =
       let parts = parts_of (computes plan (fine plan a.domain) a.domain p a.phase k j i) (is_own plan (fine plan a.domain) a.domain p a.read.field (j +ℤ a.read.dj) (i +ℤ a.read.di)) _ h in
@@ -143,14 +134,15 @@ module _ (plan : Plan) (a : Asked) (sound : IsSoundPlan plan) (is : IsAsked plan
         stale = λ n. parts.1 n || stale_cell p l (j +ℤ a.read.dj) (i +ℤ a.read.di) parts.2 n;
       }
 
+  -- a refused read has such a cell
   refused_stale : (IsReadCovered plan a → ⊥) → ReadsAStaleCell plan a
   unfolding is_read_covered
   refused_stale refused =
       let no : is_read_covered plan a ≡ false = ⊎_elim (λ t. absurd (refused (test_rule t))) (λ t. t) (split_bool (is_read_covered plan a)) in
-      let p = not-all (is_patch_covered plan a) (patches_of (fine plan a.domain)) (open_test no) in
-      let k = not-all (λ m. list_all (λ y. list_all (λ x. is_cell_covered plan a p.0 m y x) (span_list (computed_box plan a p.0).x)) (span_list (computed_box plan a p.0).y)) (up_to (nz plan a.phase.writes)) p.2 in
-      let j = not-all (λ y. list_all (λ x. is_cell_covered plan a p.0 k.0 y x) (span_list (computed_box plan a p.0).x)) (span_list (computed_box plan a p.0).y) k.2 in
-      let i = not-all (λ x. is_cell_covered plan a p.0 k.0 j.0 x) (span_list (computed_box plan a p.0).x) j.2 in
+      let p = list_all-not (is_patch_covered plan a) (patches_of (fine plan a.domain)) (open_test no) in
+      let k = list_all-not (λ m. list_all (λ y. list_all (λ x. is_cell_covered plan a p.0 m y x) (span_list (computed_box plan a p.0).x)) (span_list (computed_box plan a p.0).y)) (up_to (nz plan a.phase.writes)) p.2 in
+      let j = list_all-not (λ y. list_all (λ x. is_cell_covered plan a p.0 k.0 y x) (span_list (computed_box plan a p.0).x)) (span_list (computed_box plan a p.0).y) k.2 in
+      let i = list_all-not (λ x. is_cell_covered plan a p.0 k.0 j.0 x) (span_list (computed_box plan a p.0).x) j.2 in
       let b = In-range_out p.0 0 (finest.in_x * finest.in_y) p.1 in
       stale_at p.0 k.0 j.0 i.0 (omega (arith, b.1)) i.2
     where

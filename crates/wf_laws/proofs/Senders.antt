@@ -7,16 +7,16 @@ use Rattle.wf_model.specs.declared.script.Act.{Act}
 use Rattle.wf_model.specs.declared.script.Act.TheVariants.{Start, Force, Feedback, Table, Emit}
 use Rattle.wf_model.specs.declared.script.Entry.{Entry}
 use Rattle.wf_model.specs.Plans.{domain_of, item_of, levels_of, nz, point_x, point_y}
-use Rattle.wf_model.specs.Patches.{Split, Cell, own_box, is_own, is_place, is_in_domain, in_box, cells_in}
+use Rattle.wf_model.specs.Patches.{Split, Cell, own_box, is_own, is_place, is_in_domain, cells_in}
 use Rattle.wf_model.specs.Shapes.{cell_owner, fetched_cells}
 use Rattle.wf_model.specs.Exchange.{same_cell, sender_of, around, cells_behind, start_cells, force_cells, feedback_cells, owned_among, carried}
 use Rattle.wf_model.specs.Sound.{IsLevel}
 use Rattle.wf_laws.proofs.Bools.{equal_of}
-use Rattle.wf_laws.proofs.Members.{In, In-flat_map, In-flat_map_out, In-filter, In-filter_out, In-range, list_any-In}
+use Rattle.wf_laws.proofs.Members.{In, In-flat_map, In-filter, In-filter_out, In-range, list_any-In}
 use Rattle.wf_laws.proofs.Fetch.{same_cell-same}
 use Rattle.wf_laws.proofs.Places.{IsRoom, owner_owns, range_x, range_y, place-domain, own-domain}
-use Rattle.wf_laws.proofs.Cells.{IsPointCell, IsCellIn, fetched_point, In-cells, In-cells_out}
-use Rattle.wf_laws.proofs.NestMail.{domain_x, domain_y}
+use Rattle.wf_laws.proofs.Cells.{IsPointCell, fetched_point, In-cells}
+use Rattle.wf_laws.proofs.NestMail.{domain_x, domain_y, among_out}
 use Rattle.wf_laws.proofs.Owners.{one_owner}
 
 -- the cell of the point that a cell stands for is an own cell of its owner
@@ -44,6 +44,7 @@ module _ (plan : Plan) (split : Split) (d : ℕ) (room : IsRoom plan split d) wh
       let rx = range_x plan split d room c.field c.j c.i place in
       owner_owns plan split d room c.field (point_y plan d c.field c.j) (point_x plan d c.field c.i) ry.0 ry.1 rx.0 rx.1
 
+  -- of a fetched cell the owner sends
   fetched_sent : (n from to : ℕ) (c : Cell) → In c (filter (λ x. cell_owner plan split d x == from) (fetched_cells plan split d (item_of plan n) to)) → IsSent plan split d from c
   fetched_sent n from to c h =
       let t = In-filter_out (λ (x : Cell). cell_owner plan split d x == from) c (fetched_cells plan split d (item_of plan n) to) h in
@@ -55,18 +56,10 @@ module _ (plan : Plan) (split : Split) (d : ℕ) (room : IsRoom plan split d) wh
         own = subst (λ (q : ℕ). is_own plan split d q c.field (pos (point_y plan d c.field c.j)) (pos (point_x plan d c.field c.i)) ≡ true) (equal_of (cell_owner plan split d c) from t.1) (owner_there c point.place).1;
       }
 
+  -- an own cell is the cell of its point
   own_at_point : (from : ℕ) (c : Cell) → is_in_domain plan d c.field c.j c.i ≡ true → is_own plan split d from c.field c.j c.i ≡ true →
       is_own plan split d from c.field (pos (point_y plan d c.field c.j)) (pos (point_x plan d c.field c.i)) ≡ true
   own_at_point from c inside own = (λ n. is_own plan split d from c.field (domain_y plan d c.field c.j c.i inside n) (domain_x plan d c.field c.j c.i inside n)) ∙ own
-
-  -- the own cells among those that are asked for
-  pub among_out : (from : ℕ) (asked : List Cell) (c : Cell) → In c (owned_among plan split d from asked) → (is_own plan split d from c.field c.j c.i ≡ true) × (1 ≤ c.k) × (c.k ≤ nz plan c.field)
-  unfolding is_own
-  among_out from asked c h =
-      let a = In-filter_out (λ (x : Cell). list_any (same_cell x) asked) c (flat_map (λ f. cells_in plan f (own_box plan split d from f)) (levels_of plan)) h in
-      let b = In-flat_map_out (λ (f : ℕ). cells_in plan f (own_box plan split d from f)) c (levels_of plan) a.0 in
-      let e : IsCellIn plan b.0 (own_box plan split d from b.0) c = In-cells_out plan b.0 (own_box plan split d from b.0) c b.2 in
-      (subst (λ (f : ℕ). in_box (own_box plan split d from f) c.j c.i ≡ true) (sym e.field) e.box, e.low, subst (λ (f : ℕ). c.k ≤ nz plan f) (sym e.field) e.high)
 
   -- an own cell that is asked for is carried
   pub among_in : (from : ℕ) (asked : List Cell) (c : Cell) → IsLevel plan c.field → 1 ≤ c.k → c.k ≤ nz plan c.field → In c asked → is_own plan split d from c.field c.j c.i ≡ true →
@@ -78,9 +71,10 @@ module _ (plan : Plan) (split : Split) (d : ℕ) (room : IsRoom plan split d) wh
       (In-cells plan c.field c.k (own_box plan split d from c.field) c.j c.i l u own))
       (list_any-In (same_cell c) c asked h (same_cell-same c))
 
+  -- of an asked cell the owner sends
   among_sent : (from : ℕ) (asked : List Cell) (c : Cell) → from < split.in_x * split.in_y → In c (owned_among plan split d from asked) → IsSent plan split d from c
   among_sent from asked c hq h =
-      let own = among_out from asked c h in
+      let own = among_out plan split d from asked c h in
       let inside = own-domain plan split d room from c.field c.j c.i hq own.0 in
       record { low = own.1; high = own.2; place = place-domain plan split d room c.field c.j c.i inside; own = own_at_point from c inside own.0 }
 

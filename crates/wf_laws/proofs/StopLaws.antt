@@ -1,7 +1,7 @@
 -- The laws of overflow: what patches name overflows, the owner of the least point names it, and the least that is named is the outcome's.
-use Rattle.std.proofs.Common.{◌≡◌, inl, inr, ℕ, ◌*◌, ◌≤◌, ◌<◌, Bool, true, false, List, [], ◌∷◌, length, get_or, refl, sym, ap, subst, ◌∙◌, arith, Option, Some, None}
+use Rattle.std.proofs.Common.{◌≡◌, ℕ, ◌*◌, ◌≤◌, ◌<◌, Bool, true, length, get_or, refl, sym, ap, subst, ◌∙◌, arith, Option, Some, None}
 use Rattle.std.proofs.Math.Nat.{mul-le-mul_right}
-use Rattle.std.specs.Prelude.{pos, ◌==◌, ◌&&◌, ◌||◌, find, option_map}
+use Rattle.std.specs.Prelude.{pos, ◌==◌, ◌&&◌, find, option_map}
 use Rattle.std.specs.List.{list_any}
 use Rattle.wf_model.specs.declared.layout.Layout.{Layout}
 use Rattle.wf_model.specs.declared.script.Entry.{Entry}
@@ -15,7 +15,7 @@ use Rattle.wf_model.specs.Marks.{all_fresh, marks_after}
 use Rattle.wf_model.specs.Agreement.{IsAccepted, IsUpToOverflow, IsPatch, memory_at}
 use Rattle.wf_laws.specs.Stops.{named_at, domain_at, change_at, NamedPointsOverflow, OwnersNameTheLeastPoint, same_spot, is_named, LeastNamedIsTheOverflow, NoPatchNamesAPointBefore, OutcomeIsTheLeastNamed}
 use Rattle.wf_laws.proofs.Bools.{equal_of, same_number, and_left, and_right, differ}
-use Rattle.wf_laws.proofs.Members.{In, In-range, In-range_out, In-list_any, list_any-In, find-Some, find-None, In-Contains}
+use Rattle.wf_laws.proofs.Members.{In, In-range, In-range_out, In-list_any, list_any-In, find-Some, find-None, In-Contains, list_any-none}
 use Rattle.wf_laws.proofs.Places.{IsRoom, room_of, owner_owns}
 use Rattle.wf_laws.proofs.Right.{AreRight}
 use Rattle.wf_laws.proofs.CentralAll.{EachRight}
@@ -27,6 +27,7 @@ use Rattle.wf_laws.proofs.GoOn.{overflow-none}
 use Rattle.wf_laws.proofs.Least.{find-first, spot_level, goes_on, named_over, names_least}
 use Rattle.wf_laws.proofs.Names.{Names, silent, names, names_of}
 
+-- points that the test finds the same are equal
 same_spot-equal : (x y : Spot) → same_spot x y ≡ true → x ≡ y
 same_spot-equal x y h =
     let f : x.field ≡ y.field = equal_of x.field y.field (and_left (x.field == y.field) _ h) in
@@ -37,24 +38,25 @@ same_spot-equal x y h =
     let i : x.i ≡ y.i = equal_of x.i y.i (and_right (x.j == y.j) (x.i == y.i) last) in
     λ n. record { field = f n; k = k n; j = j n; i = i n }
 
+-- a point is the same as itself
 same_spot-same : (x : Spot) → same_spot x x ≡ true
 same_spot-same x = λ n. same_number x.field n && (same_number x.k n && (same_number x.j n && same_number x.i n))
 
+-- a point that is named
 named-Some : (x : Spot) (o : Option Spot) → is_named x o ≡ true → o ≡ Some x
 named-Some x None h = absurd (differ (sym h))
 named-Some x (Some y) h = ap Some (sym (same_spot-equal x y h))
 
+-- none is not some
 none_named : {X : Type 0} {o : Option X} {x : X} → o ≡ None → o ≡ Some x → ⊥
 none_named p q = cc
 
-list_any-none_In : {X : Type 0} (p : X → Bool) (xs : List X) → ((x : X) → In x xs → p x ≡ false) → list_any p xs ≡ false
-list_any-none_In p [] h = refl
-list_any-none_In p (x ∷ xs) h = λ n. h x (inl refl) n || list_any-none_In p xs (λ y t. h y (inr t)) n
-
 module _ (r : RunData) (layout : Layout) (a : IsAccepted r layout) (n : ℕ) (up : IsUpToOverflow r n) (within : n < length (script r)) where
+  -- how the domains are cut
   abbrev split : Split
   split = split_of layout
 
+  -- the entry at the place
   abbrev here : Entry
   here = get_or (script r) n no_entry
 
@@ -69,11 +71,13 @@ module _ (r : RunData) (layout : Layout) (a : IsAccepted r layout) (n : ℕ) (up
     };
   }
 
+  -- what a patch names at the place
   names_here : (p : ℕ) → IsPatch layout p → Names r (split_of layout) here (grids_at r n) (memory_at r layout n) p here.act
   names_here p hp =
       names_of r (split_of layout) a.sound a.covered (rooms r layout a.sound a.laid a.covered) (turns r layout a.sound a.laid a.covered n) (grids_at r n) (memory_at r layout n) each_now here
       (kind_at r.plan (script-follows_all r.plan a.sound r.initial.begins) n no_entry within) p hp
 
+  -- what it names overflows
   named_overflows : (p : ℕ) (x : Spot) → IsPatch layout p → named_at r layout n p ≡ Some x → In x (spots r.plan (domain_at r n)) × (overflows_at (change_at r n) x ≡ true)
   unfolding entry_at change_of
   named_overflows p x hp h = at (names_here p hp)
@@ -96,6 +100,7 @@ module _ (r : RunData) (layout : Layout) (a : IsAccepted r layout) (n : ℕ) (up
     domain : IsDomain r.plan (domain_at r n)
     first : find (overflows_at (change_at r n)) (spots r.plan (domain_at r n)) ≡ Some x
 
+  -- so at each point that overflows
   is_where : (x : Spot) → overflow_in r.plan (change_at r n) ≡ Some x → IsWhere x
   unfolding entry_at change_of
   is_where x over = at (names_here 0 (some_patch layout.nproc_x layout.nproc_y a.laid.some_x a.laid.some_y))
@@ -123,16 +128,19 @@ module _ (r : RunData) (layout : Layout) (a : IsAccepted r layout) (n : ℕ) (up
       at room p hp own (silent q fine) = absurd (none_named fine over)
       at room p hp own (names s q is agrees) = q ∙ names_least r.plan (split_of layout) (domain_at r n) p s (change_at r n) agrees room hp x over own
 
+  -- some patch names the point
   abbrev some_names : Spot → Bool
   some_names x = list_any (λ p. is_named x (named_at r layout n p)) (patches_of (split_of layout))
 
+  -- a patch's number
   patch_below : (p : ℕ) → In p (patches_of (split_of layout)) → IsPatch layout p
   patch_below p h = let b = In-range_out p 0 (layout.nproc_x * layout.nproc_y) h in omega (arith, b.1)
 
+  -- the least point that is named is the overflow
   least_is : (o : Option Spot) → overflow_in r.plan (change_at r n) ≡ o → find some_names (spots r.plan (domain_at r n)) ≡ o
   least_is None fine =
       find-None some_names (spots r.plan (domain_at r n))
-      (λ x i. list_any-none_In (λ p. is_named x (named_at r layout n p)) (patches_of (split_of layout)) (λ p h. ap (is_named x) (none_here fine p (patch_below p h))))
+      (λ x i. list_any-none (λ p. is_named x (named_at r layout n p)) (patches_of (split_of layout)) (λ p h. ap (is_named x) (none_here fine p (patch_below p h))))
   least_is (Some x) over =
       let owner : ℕ = owner_of r.plan (split_of layout) (domain_at r n) x.field x.j x.i in
       let o = owner_named x over in
