@@ -12,10 +12,12 @@ use Rattle.wf_model.specs.Halves.{Due, due_after}
 use Rattle.wf_model.specs.Core.{CoreState, PatchAt, due_of, is_letter, letter_of}
 use Rattle.wf_model.specs.Replay.{replay}
 use Rattle.wf_model.specs.Lockstep.{place_or_end, place_after}
+use Rattle.wf_laws.proofs.Bools.{and_left, and_right}
 use Rattle.wf_core_laws.specs.Patches.{IsCanonical, IsMessage, StopsWithTheFront}
 use Rattle.wf_model.specs.Front.{Stand, front}
+use Rattle.wf_laws.proofs.Members.{find-Some, All-In}
 use Rattle.wf_core_laws.proofs.PatchForms.{has-range, message_of}
-use Rattle.wf_core_laws.proofs.Members.{Has, and_left, and_right}
+use Rattle.wf_core_laws.proofs.Members.{Has}
 use Rattle.wf_core_laws.proofs.FrontLaws.{At, due-at}
 use Rattle.wf_core_laws.proofs.Sane.{Expected, StopsAt, Sane}
 use Rattle.wf_core_laws.proofs.Takers.{stopped_next}
@@ -25,15 +27,6 @@ use Rattle.wf_core_laws.proofs.LockstepLaws.{all_done, memory_by}
 use Rattle.wf_core_laws.proofs.Numbers.{LetterAt, carries}
 use Rattle.wf_core_laws.proofs.MailExact.{letter_exact}
 use Rattle.std.proofs.lemmas.List.Elements.{All-head, All-tail}
-
--- what a search finds, where each element of the list has a fact
-pub find_has : {A : Type 0} (P : A → Type 0) (test : A → Bool) (xs : List A) (x : A) → All P xs → find test xs ≡ Some x → P x × (test x ≡ true)
-find_has P test [] x all h = absurd (cc (h))
-find_has P test (y ∷ xs) x all h =
-    (elim (test y) as (λ b. test y ≡ b → cond b (Some y) (find test xs) ≡ Some x → P x × (test x ≡ true)) [
-      | true ↦ λ e is. let w : y ≡ x = cc (is) in (subst P w (All-head P y xs all), subst (λ (z : _). test z ≡ true) w e)
-      | false ↦ λ e is. find_has P test xs x (All-tail P y xs all) is
-    ]) refl h
 
 module _ (r : RunData) (layout : Layout) where
   -- the front has not stopped a patch before its next place
@@ -59,8 +52,8 @@ module _ (r : RunData) (layout : Layout) where
   none_other : (s : CoreState) (k q p : ℕ) (o : Option Letter) → All (LetterAt r layout) s.mail → letter_of s k q p ≡ o → ((e : Entry) → IsMessage r layout k e q p → ⊥) → o ≡ None
   none_other s k q p None all is no_such = refl
   none_other s k q p (Some l) all is no_such =
-      let w = find_has (LetterAt r layout) (is_letter k q p) s.mail l all is in
-      let a : LetterAt r layout l = w.0 in
+      let w = find-Some (is_letter k q p) l s.mail is in
+      let a : LetterAt r layout l = All-In (LetterAt r layout) l s.mail all w.0 in
       let rest = and_right (l.place == k) ((l.from == q) && (l.to == p)) w.1 in
       let place : l.place ≡ k = eqb-true l.place k (and_left (l.place == k) _ w.1) in
       let from : l.from ≡ q = eqb-true l.from q (and_left (l.from == q) _ rest) in

@@ -8,9 +8,10 @@ use Rattle.wf_model.specs.declared.script.Entry.{Entry}
 use Rattle.wf_model.specs.Outcome.{RunData, script}
 use Rattle.wf_model.specs.Patches.{split_of, patches_of}
 use Rattle.wf_model.specs.Exchange.{is_expected}
-use Rattle.wf_core_laws.specs.Patches.{IsPatch, IsMessage}
+use Rattle.wf_laws.proofs.Bools.{or_left, or_right}
+use Rattle.wf_core_laws.specs.Patches.{IsDomainPatch, IsMessage}
 use Rattle.wf_core_laws.proofs.Places.{lt_or_le}
-use Rattle.wf_core_laws.proofs.Members.{Has, or_left, or_right, or_parts}
+use Rattle.wf_core_laws.proofs.Members.{Has, or_parts}
 use Rattle.wf_core_laws.proofs.Progress.{There}
 
 -- a number of a range is one of its list
@@ -32,13 +33,13 @@ range-has a (suc n) k h =
     ]
 
 module _ (r : RunData) (layout : Layout) (d p : ℕ) where
-  pub there_of : IsPatch r.plan layout d p → There r layout d p
+  pub there_of : IsDomainPatch r.plan layout d p → There r layout d p
   there_of is = record {
     domain = has-range 1 (length (r.plan).domains) d ((is.domain).0) (omega (arith, (is.domain).1));
     patch = has-range 0 (layout.nproc_x * layout.nproc_y) p (omega arith) (omega (arith, is.patch));
   }
 
-  pub patch_of : There r layout d p → IsPatch r.plan layout d p
+  pub patch_of : There r layout d p → IsDomainPatch r.plan layout d p
   patch_of at =
       let dom = range-has 1 (length (r.plan).domains) d at.domain in
       let pat = range-has 0 (layout.nproc_x * layout.nproc_y) p at.patch in

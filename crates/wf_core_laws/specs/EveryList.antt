@@ -9,7 +9,7 @@ use Rattle.wf_model.specs.Patches.{split_of, patches_of}
 use Rattle.wf_model.specs.Core.{CoreState}
 use Rattle.wf_model.specs.Replay.{replay, replay_from, IsEnabled, IsReachable, IsEnd, IsFull}
 use Rattle.wf_model.specs.Lockstep.{memory_line, memory_report}
-use Rattle.wf_core_laws.specs.Patches.{IsPatch, IsCanonical}
+use Rattle.wf_core_laws.specs.Patches.{IsDomainPatch, IsCanonical}
 use Rattle.wf_core_laws.specs.Carried.{IsLockstepLetter, IsLockstepPiece}
 use Rattle.wf_core_laws.specs.Ends.{WritesTheFirst, IsFinished, FollowsLockstep, AreAlike}
 use Rattle.wf_core_laws.specs.Stops.{IsFirstStop, IsStoppedAt}
@@ -26,7 +26,7 @@ EveryReachableStateIsCanonical = (r : RunData) (layout : Layout) (s : CoreState)
 -- in it each patch has the memory and the stop of the lockstep run after as many of its own halves
 abbrev pub PatchesFollowTheLockstepRun : Type 0
 PatchesFollowTheLockstepRun =
-    (r : RunData) (layout : Layout) (s : CoreState) (d p : ℕ) → HasDomain r → IsReachable r layout s → IsPatch r.plan layout d p → FollowsLockstep r layout s d p
+    (r : RunData) (layout : Layout) (s : CoreState) (d p : ℕ) → HasDomain r → IsReachable r layout s → IsDomainPatch r.plan layout d p → FollowsLockstep r layout s d p
 
 -- all letters in the mail carry the lockstep run's numbers
 abbrev pub LettersCarryTheLockstepRunsNumbers : Type 0

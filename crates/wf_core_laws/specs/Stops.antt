@@ -5,15 +5,15 @@ use Rattle.wf_model.specs.Outcome.{RunData, script}
 use Rattle.wf_model.specs.Halves.{Due}
 use Rattle.wf_model.specs.Core.{CoreState, due_of}
 use Rattle.wf_model.specs.Front.{front}
-use Rattle.wf_core_laws.specs.Patches.{IsPatch}
+use Rattle.wf_core_laws.specs.Patches.{IsDomainPatch}
 
 -- the place at which a patch of the front stops first
 pub record IsFirstStop (r : RunData) (layout : Layout) (place : ℕ) : Type 0 where
   pub within : place < length (script r)
-  pub live : (d p : ℕ) → IsPatch r.plan layout d p → (front r layout place d p).is_stopped ≡ false
+  pub live : (d p : ℕ) → IsDomainPatch r.plan layout d p → (front r layout place d p).is_stopped ≡ false
   pub d : ℕ
   pub p : ℕ
-  pub at : IsPatch r.plan layout d p
+  pub at : IsDomainPatch r.plan layout d p
   pub stops : (front r layout (suc place) d p).is_stopped ≡ true
 
 -- a patch of a state is stopped at this place
