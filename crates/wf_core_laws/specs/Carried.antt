@@ -9,6 +9,7 @@ use Rattle.wf_model.specs.Frames.{frames_of, variables_of}
 use Rattle.wf_model.specs.Patches.{split_of, own_box, cells_in}
 use Rattle.wf_model.specs.Exchange.{Letter, sender_of, carried}
 use Rattle.wf_model.specs.Core.{Posted, memory_point}
+use Rattle.wf_model.specs.Held.{message_numbers, piece_numbers}
 use Rattle.wf_model.specs.Agreement.{memory_at}
 use Rattle.wf_core_laws.specs.Patches.{IsDomainPatch, IsMessage}
 
@@ -27,3 +28,11 @@ pub record IsLockstepPiece (r : RunData) (layout : Layout) (x : Posted) : Type 0
   pub patch : IsDomainPatch r.plan layout f.domain x.patch
   pub numbers : x.values ≡ map (λ c. memory_at r layout f.place f.domain x.patch c.field c.k c.j c.i)
       (cells_in r.plan x.field (own_box r.plan (split_of layout) f.domain x.patch x.field))
+
+-- a letter has its message's numbers: the grids' before the place up to the first overflow, and past it those of the lockstep run
+abbrev pub HasMessageNumbers : RunData → Layout → Letter → Type 0
+HasMessageNumbers r layout l = l.values ≡ message_numbers r layout l.place l.from l.to
+
+-- and a piece those of its frame, its variable and its patch
+abbrev pub HasFrameNumbers : RunData → Layout → Posted → Type 0
+HasFrameNumbers r layout x = x.values ≡ piece_numbers r layout x.frame x.field x.patch

@@ -9,8 +9,9 @@ use Rattle.wf_model.specs.Patches.{split_of, patches_of}
 use Rattle.wf_model.specs.Core.{CoreState}
 use Rattle.wf_model.specs.Replay.{replay, replay_from, IsEnabled, IsReachable, IsEnd, IsFull}
 use Rattle.wf_model.specs.Lockstep.{memory_line, memory_report}
+use Rattle.wf_model.specs.Agreement.{IsAccepted}
 use Rattle.wf_core_laws.specs.Patches.{IsDomainPatch, IsCanonical}
-use Rattle.wf_core_laws.specs.Carried.{IsLockstepLetter, IsLockstepPiece}
+use Rattle.wf_core_laws.specs.Carried.{IsLockstepLetter, IsLockstepPiece, HasMessageNumbers, HasFrameNumbers}
 use Rattle.wf_core_laws.specs.Ends.{WritesTheFirst, IsFinished, FollowsLockstep, AreAlike}
 use Rattle.wf_core_laws.specs.Stops.{IsFirstStop, IsStoppedAt}
 use Rattle.wf_core_laws.specs.EventCount.{most_events}
@@ -38,6 +39,17 @@ abbrev pub PiecesCarryTheLockstepRunsNumbers : Type 0
 PiecesCarryTheLockstepRunsNumbers =
     (r : RunData) (layout : Layout) (s : CoreState) → HasDomain r → IsReachable r layout s →
     All (IsLockstepPiece r layout) s.pieces × All (IsLockstepPiece r layout) s.gathered
+
+-- on a plan that the halo check accepts, letters carry the numbers of their messages: the grids' up to the first overflow
+abbrev pub LettersCarryTheirNumbers : Type 0
+LettersCarryTheirNumbers =
+    (r : RunData) (layout : Layout) (s : CoreState) → IsAccepted r layout → IsReachable r layout s → All (HasMessageNumbers r layout) s.mail
+
+-- and pieces those of their frames
+abbrev pub PiecesCarryTheirNumbers : Type 0
+PiecesCarryTheirNumbers =
+    (r : RunData) (layout : Layout) (s : CoreState) → IsAccepted r layout → IsReachable r layout s →
+    All (HasFrameNumbers r layout) s.pieces × All (HasFrameNumbers r layout) s.gathered
 
 -- a state with no event enabled is an end
 abbrev pub NoStateIsStuck : Type 0
