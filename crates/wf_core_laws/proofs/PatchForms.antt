@@ -9,6 +9,7 @@ use Rattle.wf_model.specs.Outcome.{RunData, script}
 use Rattle.wf_model.specs.Patches.{split_of, patches_of}
 use Rattle.wf_model.specs.Exchange.{is_expected}
 use Rattle.wf_laws.proofs.Bools.{or_left, or_right}
+use Rattle.wf_model.specs.Agreement.{IsPatch}
 use Rattle.wf_core_laws.specs.Patches.{IsDomainPatch, IsMessage}
 use Rattle.wf_core_laws.proofs.Places.{lt_or_le}
 use Rattle.wf_core_laws.proofs.Members.{Has, or_parts}
@@ -52,3 +53,7 @@ message_of r layout k e q p entry cells from to =
     let f = range-has 0 (layout.nproc_x * layout.nproc_y) q from in
     let t = range-has 0 (layout.nproc_x * layout.nproc_y) p to in
     record { entry = entry; cells = cells; from = omega (arith, f.1); to = omega (arith, t.1) }
+
+-- a patch of the layout is one of the list of patches
+pub patch_has : (layout : Layout) (p : ℕ) → IsPatch layout p → Has (patches_of (split_of layout)) p
+patch_has layout p h = has-range 0 (layout.nproc_x * layout.nproc_y) p (omega arith) (omega (arith, h))
