@@ -1,5 +1,5 @@
 //! What holds of every state that a list of enabled events leads to.
-ghost use Rattle.wf_core_laws.specs.EveryList.{EveryReachableStateIsCanonical, PatchesFollowTheLockstepRun, LettersCarryTheLockstepRunsNumbers, PiecesCarryTheLockstepRunsNumbers, LettersCarryTheirNumbers, PiecesCarryTheirNumbers, FramesWrittenAreTheFirst};
+ghost use Rattle.wf_core_laws.specs.EveryList.{EveryReachableStateIsCanonical, PatchesFollowTheLockstepRun, LettersCarryTheLockstepRunsNumbers, PiecesCarryTheLockstepRunsNumbers, LettersCarryTheirNumbers, PiecesCarryTheirNumbers, FramesWrittenAreTheFirst, FramesWrittenAreTheRuns};
 
 /// How many halves each patch has done and which patches are stopped tells all memories and all mail of a state.
 pub fn every_reachable_state_is_canonical()
@@ -24,16 +24,19 @@ pub fn pieces_carry_the_lockstep_runs_numbers()
 /// On a plan that the halo check accepts each letter carries its message's numbers: up to the first overflow those of the grids.
 pub fn letters_carry_their_numbers()
     ensures { LettersCarryTheirNumbers }
-{
-}
+{}
 
 /// On a plan that the halo check accepts each piece carries the numbers of its variable in its frame: up to the first overflow those of the grids.
 pub fn pieces_carry_their_numbers()
     ensures { PiecesCarryTheirNumbers }
-{
-}
+{}
 
 /// The frames written are the first of the script's, and none stands at a stop or past one.
 pub fn frames_written_are_the_first()
     ensures { FramesWrittenAreTheFirst }
+{}
+
+/// On a plan that the halo check accepts the frames written are the first of those that the run writes: none stands at the first overflow or past it.
+pub fn frames_written_are_the_runs()
+    ensures { FramesWrittenAreTheRuns }
 {}
