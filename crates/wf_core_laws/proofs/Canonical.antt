@@ -1,32 +1,27 @@
 -- A state that a run can reach is in canonical form.
-use Rattle.std.proofs.Common.{◌≡◌, inl, inr, ℕ, suc, ◌<◌, ◌≤◌, ◌&&◌, nat_lt, if◌then◌else◌, Bool, true, false, List, All, Option, Some, None, length, refl, ap, sym, ◌∙◌, subst, arith, [], cond, ◌*◌, ◌==◌, ◌∷◌}
-use Rattle.std.specs.Prelude.{slice_get, find, is_some}
+use Rattle.std.proofs.Common.{◌≡◌, ℕ, ◌&&◌, true, false, List, All, Option, Some, None, length, refl, ap, subst, arith, ◌*◌, ◌==◌}
 use Rattle.std.proofs.lemmas.Bool.{eqb-true}
 use Rattle.wf_model.specs.declared.layout.Layout.{Layout}
 use Rattle.wf_model.specs.declared.script.Entry.{Entry}
 use Rattle.wf_model.specs.declared.event.Event.{Event}
 use Rattle.wf_model.specs.Outcome.{RunData, script}
-use Rattle.wf_model.specs.Patches.{split_of, patches_of}
-use Rattle.wf_model.specs.Exchange.{Letter, sender_of, receiver_of}
-use Rattle.wf_model.specs.Halves.{Due, due_after}
-use Rattle.wf_model.specs.Core.{CoreState, PatchAt, due_of, is_letter, letter_of}
+use Rattle.wf_model.specs.Exchange.{Letter}
+use Rattle.wf_model.specs.Halves.{Due}
+use Rattle.wf_model.specs.Core.{CoreState, due_of, is_letter, letter_of}
 use Rattle.wf_model.specs.Replay.{replay}
-use Rattle.wf_model.specs.Lockstep.{place_or_end, place_after}
+use Rattle.wf_model.specs.Lockstep.{place_or_end}
 use Rattle.wf_laws.proofs.Bools.{and_left, and_right}
 use Rattle.wf_core_laws.specs.Patches.{IsCanonical, IsMessage, StopsWithTheFront}
 use Rattle.wf_model.specs.Front.{Stand, front}
 use Rattle.wf_laws.proofs.Members.{find-Some, All-In}
 use Rattle.wf_core_laws.proofs.PatchForms.{has-range, message_of}
-use Rattle.wf_core_laws.proofs.Members.{Has}
 use Rattle.wf_core_laws.proofs.FrontLaws.{At, due-at}
 use Rattle.wf_core_laws.proofs.Sane.{Expected, StopsAt, Sane}
 use Rattle.wf_core_laws.proofs.Takers.{stopped_next}
 use Rattle.wf_core_laws.proofs.Kept.{sane}
-use Rattle.wf_core_laws.proofs.Progress.{There, Closed}
 use Rattle.wf_core_laws.proofs.LockstepLaws.{all_done, memory_by}
 use Rattle.wf_core_laws.proofs.Numbers.{LetterAt, carries}
 use Rattle.wf_core_laws.proofs.MailExact.{letter_exact}
-use Rattle.std.proofs.lemmas.List.Elements.{All-head, All-tail}
 
 module _ (r : RunData) (layout : Layout) where
   -- the front has not stopped a patch before its next place

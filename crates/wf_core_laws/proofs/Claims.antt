@@ -1,5 +1,5 @@
 -- An event that is enabled stays enabled until it comes itself, whatever comes in between.
-use Rattle.std.proofs.Common.{◌≡◌, ◌⊎◌, inl, inr, ℕ, ◌%◌, ◌==◌, ◌&&◌, ◌||◌, Bool, true, false, not, List, [], ◌∷◌, All, Option, Some, None, refl, ap, sym, ◌∙◌, subst}
+use Rattle.std.proofs.Common.{◌≡◌, ◌⊎◌, inl, inr, ℕ, ◌%◌, ◌==◌, ◌&&◌, Bool, true, false, not, List, [], ◌∷◌, All, Option, Some, None, refl, ap, sym, ◌∙◌, subst}
 use Rattle.std.specs.Prelude.{slice_get, is_some, is_none}
 use Rattle.std.proofs.lemmas.Bool.{eqb-true}
 use Rattle.std.proofs.lemmas.List.Elements.{All-head, All-tail}
@@ -11,12 +11,12 @@ use Rattle.wf_model.specs.Numbers.{and_then}
 use Rattle.wf_model.specs.Outcome.{RunData}
 use Rattle.wf_model.specs.Frames.{frames_of}
 use Rattle.wf_model.specs.Patches.{split_of}
-use Rattle.wf_model.specs.Exchange.{sender_of, senders_to}
+use Rattle.wf_model.specs.Exchange.{senders_to}
 use Rattle.wf_model.specs.Halves.{Half, acts, sends, takes, posts, Due}
-use Rattle.wf_model.specs.Core.{CoreState, due_of, letter_of, has_mail, is_lost, is_past}
-use Rattle.wf_model.specs.Replay.{goes, may_step, may_take, may_stop, patch_may, may_write, is_piece, variable_number, is_for_server, is_enabled, state_after_event, if_enabled, replay_from}
+use Rattle.wf_model.specs.Core.{CoreState, letter_of, has_mail, is_lost}
+use Rattle.wf_model.specs.Replay.{goes, may_step, may_take, may_stop, patch_may, variable_number, is_for_server, is_enabled, state_after_event, if_enabled, replay_from}
 use Rattle.wf_laws.proofs.Bools.{and_left, and_right, differ}
-use Rattle.wf_core_laws.proofs.Members.{Found, or_parts, not_both, all-at, any-found}
+use Rattle.wf_core_laws.proofs.Members.{or_parts, not_both, all-at, any-found}
 use Rattle.wf_core_laws.proofs.Sane.{Sane}
 use Rattle.wf_core_laws.proofs.Kept.{DueHere, due_here_of, kept}
 use Rattle.wf_core_laws.proofs.Persists.{Other, step_persists, take_persists, stop_persists}

@@ -1,16 +1,15 @@
 -- The front stops a patch first where the run first overflows.
-use Rattle.std.proofs.Common.{◌≡◌, inl, inr, ℕ, suc, ◌<◌, ◌≤◌, ◌==◌, Bool, true, false, length, Option, Some, None, Ok, Err, refl, ap, sym, ◌∙◌, subst}
-use Rattle.std.specs.Prelude.{◌&&◌, find, is_some, option_map}
+use Rattle.std.proofs.Common.{◌≡◌, inl, inr, ℕ, suc, true, length, Option, Some, None, Ok, Err, refl, ap, sym, ◌∙◌}
+use Rattle.std.specs.Prelude.{◌&&◌, is_some, option_map}
 use Rattle.std.specs.List.{list_any}
 use Rattle.std.proofs.lemmas.Bool.Decides.{eqb_tells}
 use Rattle.wf_model.specs.declared.layout.Layout.{Layout}
-use Rattle.wf_model.specs.declared.point.Point.{Point}
 use Rattle.wf_model.specs.Grids.{Grids}
 use Rattle.wf_model.specs.Changes.{Spot, spots}
 use Rattle.wf_model.specs.Outcome.{RunData, Overflow, script, entry_at, point_of, outcome_of}
 use Rattle.wf_model.specs.Patches.{split_of, patches_of}
 use Rattle.wf_model.specs.Front.{front}
-use Rattle.wf_model.specs.Agreement.{IsAccepted, IsUpToOverflow, IsPatch}
+use Rattle.wf_model.specs.Agreement.{IsAccepted}
 use Rattle.wf_laws.specs.Outcomes.{IsOverflowOfItsItem}
 use Rattle.wf_laws.specs.Stops.{domain_at, change_at, named_at, is_named, least_named}
 use Rattle.wf_laws.proofs.Members.{find-Some}

@@ -1,6 +1,6 @@
 -- Letters and pieces carry the numbers of their messages and frames: the grids' up to the first overflow, and past it those of the lockstep run.
-use Rattle.std.proofs.Common.{◌≡◌, inl, inr, ℕ, ◌*◌, ◌+◌, ◌<◌, ◌≤◌, Bool, true, false, List, map, All, Some, refl, ap, sym, ◌∙◌, subst, arith, [], length, ◌∷◌}
-use Rattle.std.specs.Prelude.{slice_get, ℤ, pos, if◌then◌else◌}
+use Rattle.std.proofs.Common.{◌≡◌, inl, inr, ℕ, ◌≤◌, true, List, map, All, Some, refl, ap, sym, ◌∙◌, subst, arith, [], length, ◌∷◌}
+use Rattle.std.specs.Prelude.{slice_get, pos, if◌then◌else◌}
 use Rattle.std.proofs.lemmas.Option.{get_or_from_slice_get, slice_get_within}
 use Rattle.std.proofs.lemmas.List.Elements.{All-weaker}
 use Rattle.wf_model.specs.declared.layout.Layout.{Layout}
@@ -11,9 +11,8 @@ use Rattle.wf_model.specs.Frames.{frames_of, frame_of, no_frame}
 use Rattle.wf_model.specs.Patches.{split_of, Cell, own_box, is_own, cells_in, in_box}
 use Rattle.wf_model.specs.Shapes.{grid_cell}
 use Rattle.wf_model.specs.Exchange.{Letter, sender_of, carried}
-use Rattle.wf_model.specs.PatchEffect.{Memory}
 use Rattle.wf_model.specs.Core.{CoreState, Posted, memory_point}
-use Rattle.wf_model.specs.Held.{stands_past, grids_in_patches, numbers_at, message_numbers, piece_numbers}
+use Rattle.wf_model.specs.Held.{stands_past, grids_in_patches, numbers_at, piece_numbers}
 use Rattle.wf_model.specs.Sound.{IsDomain}
 use Rattle.wf_model.specs.Agreement.{IsAccepted, IsPatch, memory_at, cell_number}
 use Rattle.wf_laws.proofs.Bools.{split_bool}

@@ -1,9 +1,8 @@
 -- Up to the first overflow a patch stops at a place exactly where it names a point there.
-use Rattle.std.proofs.Common.{◌≡◌, inl, inr, ℕ, suc, ◌<◌, ◌≤◌, ◌==◌, ◌||◌, if◌then◌else◌, Bool, true, false, List, [], ◌∷◌, ◌++◌, length, map, get_or, Option, Some, None, refl, ap, sym, ◌∙◌, subst, arith}
+use Rattle.std.proofs.Common.{◌≡◌, ℕ, suc, ◌<◌, ◌==◌, ◌||◌, if◌then◌else◌, Bool, true, false, [], ◌∷◌, ◌++◌, length, map, Option, Some, None, refl, ap, sym, ◌∙◌}
 use Rattle.std.specs.Prelude.{slice_get, zip, is_some}
 use Rattle.std.specs.Option.{option_or}
 use Rattle.std.proofs.lemmas.Bool.{eq-eqb}
-use Rattle.std.proofs.lemmas.Bool.Decides.{eqb_tells}
 use Rattle.std.proofs.lemmas.Option.{slice_get-get_or}
 use Rattle.wf_model.specs.declared.layout.Layout.{Layout}
 use Rattle.wf_model.specs.declared.plan.Item.{Item}
@@ -29,7 +28,7 @@ use Rattle.wf_laws.proofs.PatchLaws.{no_stop}
 use Rattle.wf_core_laws.specs.Patches.{IsDomainPatch}
 use Rattle.wf_core_laws.proofs.Members.{Has, any-none, flat_map-same, has-filter}
 use Rattle.wf_core_laws.proofs.FrontLaws.{front-next}
-use Rattle.wf_core_laws.proofs.Progress.{There, Closed}
+use Rattle.wf_core_laws.proofs.Progress.{There}
 use Rattle.wf_core_laws.proofs.PatchForms.{there_of, patch_of, patch_has}
 use Rattle.wf_core_laws.proofs.LockstepLaws.{lockstep_front}
 use Rattle.wf_core_laws.proofs.ScriptLaws.{closed}

@@ -1,5 +1,5 @@
 -- The frames that a state has written, among those of the run.
-use Rattle.std.proofs.Common.{◌≡◌, inl, inr, ℕ, zero, suc, ◌<◌, ◌≤◌, nat_lt, cond, Bool, true, false, List, [], ◌∷◌, length, take, get_or, Some, Ok, Err, refl, ap, sym, ◌∙◌, subst, arith}
+use Rattle.std.proofs.Common.{◌≡◌, inl, inr, ℕ, zero, suc, ◌<◌, ◌≤◌, nat_lt, cond, Bool, true, List, [], ◌∷◌, length, take, get_or, Some, Ok, Err, refl, ap, sym, ◌∙◌, subst, arith}
 use Rattle.std.specs.Prelude.{slice_get, filter, Result}
 use Rattle.std.proofs.lemmas.Bool.{lt-ltb}
 use Rattle.std.proofs.lemmas.Option.{slice_get-get_or}
@@ -9,11 +9,10 @@ use Rattle.wf_model.specs.declared.event.Event.{Event}
 use Rattle.wf_model.specs.Grids.{Grids}
 use Rattle.wf_model.specs.Outcome.{RunData, Overflow, outcome_of}
 use Rattle.wf_model.specs.Frames.{frames_of, frames_written, up_to_overflow, no_frame}
-use Rattle.wf_model.specs.Front.{Stand, front}
 use Rattle.wf_model.specs.Core.{CoreState}
-use Rattle.wf_model.specs.Replay.{IsReachable, IsFull, replay}
+use Rattle.wf_model.specs.Replay.{IsFull, replay}
 use Rattle.wf_model.specs.Agreement.{IsAccepted}
-use Rattle.wf_core_laws.specs.Ends.{IsFinished, WritesTheFirst}
+use Rattle.wf_core_laws.specs.Ends.{IsFinished}
 use Rattle.wf_core_laws.specs.Stops.{IsFirstStop}
 use Rattle.wf_core_laws.specs.EveryList.{FramesWrittenAreTheRuns, FullListsWriteTheRunsFrames}
 use Rattle.wf_core_laws.proofs.Places.{lt_or_le}

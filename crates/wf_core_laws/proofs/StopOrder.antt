@@ -1,110 +1,52 @@
 -- The least stop of a full list is the first overflow of the run.
-use Rattle.std.proofs.Common.{◌≡◌, inl, inr, ℕ, zero, suc, ◌+◌, ◌*◌, ◌<◌, ◌≤◌, ◌==◌, ◌||◌, cond, if◌then◌else◌, Bool, true, false, List, [], ◌∷◌, length, Option, Some, None, Ok, Err, refl, ap, sym, ◌∙◌, subst, arith}
-use Rattle.std.specs.Prelude.{slice_get, find, is_some, option_map, Result}
-use Rattle.std.specs.Option.{option_or}
-use Rattle.std.specs.List.{list_any, range_with_len}
-use Rattle.std.proofs.lemmas.Bool.{eq-eqb, eqb-true, ne_eqb}
+use Rattle.std.proofs.Common.{◌≡◌, inl, inr, ℕ, suc, ◌*◌, ◌<◌, ◌≤◌, if◌then◌else◌, true, false, List, length, Option, Some, None, Ok, Err, refl, ap, sym, ◌∙◌, subst, arith}
+use Rattle.std.specs.Prelude.{slice_get, is_some, option_map, Result}
+use Rattle.std.specs.List.{list_any}
+use Rattle.std.proofs.lemmas.Bool.{eq-eqb, ne_eqb}
 use Rattle.std.proofs.lemmas.Option.{slice_get-get_or, slice_get_within}
 use Rattle.wf_model.specs.declared.layout.Layout.{Layout}
-use Rattle.wf_model.specs.declared.plan.Item.{Item}
-use Rattle.wf_model.specs.declared.plan.Item.TheVariants as item
 use Rattle.wf_model.specs.declared.point.Point.{Point}
-use Rattle.wf_model.specs.declared.script.Act.{Act}
-use Rattle.wf_model.specs.declared.script.Act.TheVariants.{Start, Force, Feedback, Table, Emit}
 use Rattle.wf_model.specs.declared.script.Entry.{Entry}
 use Rattle.wf_model.specs.declared.event.Event.{Event}
-use Rattle.wf_model.specs.Plans.{item_of}
 use Rattle.wf_model.specs.Grids.{Grids}
-use Rattle.wf_model.specs.Changes.{Change, Spot, spots, nothing, overflows_at, overflow_in, table_change}
-use Rattle.wf_model.specs.Outcome.{RunData, Overflow, script, no_entry, entry_at, grids_at, act_change, change_of, what_of, point_of, outcome_of}
+use Rattle.wf_model.specs.Changes.{Spot, spots, overflow_in}
+use Rattle.wf_model.specs.Outcome.{RunData, Overflow, script, no_entry, entry_at, what_of, point_of, outcome_of}
 use Rattle.wf_model.specs.Patches.{split_of, patches_of}
-use Rattle.wf_model.specs.Exchange.{sender_of, receiver_of, senders_to}
+use Rattle.wf_model.specs.Exchange.{sender_of, senders_to}
 use Rattle.wf_model.specs.PatchEffect.{Memory, Setting, computing, least_failure}
 use Rattle.wf_model.specs.Halves.{Half, acts, sends, takes, posts, Due, act_halves}
 use Rattle.wf_model.specs.Core.{CoreState, due_of, has_mail, failure_at, letter_of}
-use Rattle.wf_model.specs.Replay.{IsFull, replay}
+use Rattle.wf_model.specs.Replay.{IsFull}
 use Rattle.wf_model.specs.Front.{Stand, front, last_half, halves_before, mail_to}
-use Rattle.wf_model.specs.Agreement.{IsAccepted, IsUpToOverflow, IsPatch}
+use Rattle.wf_model.specs.Agreement.{IsAccepted, IsPatch}
 use Rattle.wf_laws.specs.Outcomes.{IsOverflowOfItsItem}
 use Rattle.wf_laws.specs.Stops.{domain_at, change_at, named_at, is_named, least_named}
-use Rattle.wf_laws.proofs.Bools.{split_bool, or_right}
+use Rattle.wf_laws.proofs.Bools.{split_bool}
 use Rattle.wf_laws.proofs.Members.{find-None}
 use Rattle.wf_laws.proofs.FirstOverflow.{first_is, earlier}
 use Rattle.wf_laws.proofs.StopLaws.{outcome_least, least_overflow}
 use Rattle.wf_core_laws.specs.Patches.{IsDomainPatch}
 use Rattle.wf_core_laws.specs.Ends.{IsFinished}
 use Rattle.wf_core_laws.specs.Stops.{IsFirstStop, IsStoppedAt}
-use Rattle.wf_core_laws.specs.LeastStop.{first_some, first_overflow, half_names, due_names, stop_names, least_stop_at, stop_at, least_stop}
+use Rattle.wf_core_laws.specs.LeastStop.{first_overflow, half_names, due_names, stop_names, least_stop_at, stop_at, least_stop}
 use Rattle.wf_core_laws.specs.EveryList.{NoPatchStopsBeforeTheOverflow, LeastStopIsTheFirstOverflow}
 use Rattle.wf_core_laws.proofs.Places.{lt_or_le, due_here}
-use Rattle.wf_core_laws.proofs.Members.{Has, has-here, not_both, all-made, any-none}
+use Rattle.wf_core_laws.proofs.Members.{Has, not_both, all-made, any-none}
 use Rattle.wf_core_laws.proofs.HalvesAt.{LastOrQuiet, last-or-quiet}
 use Rattle.wf_core_laws.proofs.FrontLaws.{At, due-at, halves_before-rises}
 use Rattle.wf_core_laws.proofs.Sane.{StopsAt, Sane, Expected, sends-at}
 use Rattle.wf_core_laws.proofs.Takers.{stopped_next, stopped_before, stops_last, expects, came, mail_is}
 use Rattle.wf_core_laws.proofs.Kept.{sane, takes_set, memory_here}
-use Rattle.wf_core_laws.proofs.Progress.{There, Closed}
+use Rattle.wf_core_laws.proofs.Progress.{Closed}
 use Rattle.wf_core_laws.proofs.PatchForms.{there_of, patch_of, patch_has, range-has}
 use Rattle.wf_core_laws.proofs.End.{end_of_run}
 use Rattle.wf_core_laws.proofs.LockstepLaws.{all_done}
 use Rattle.wf_core_laws.proofs.LeastStop.{NoStop, stop_late, stopped_there, none_stopped}
 use Rattle.wf_core_laws.proofs.NamedStops.{half_fails, going, entry_here, domain_here, half_names as front_names, stops_naming}
+use Rattle.wf_core_laws.proofs.StopForms.{none-first, one-first, find-same, any-same, change_domain}
 use Rattle.wf_core_laws.proofs.FirstStop.{mapped_some, first_stop, no_stop_at_all}
 use Rattle.wf_core_laws.proofs.ScriptLaws.{closed}
 use Rattle.wf_core_laws.proofs.Interleavings.{quiet}
-
--- ---- the first of a list of which there is something
-
-none-first : {A : Type 0} (f : ℕ → Option A) (a n : ℕ) → ((k : ℕ) → a ≤ k → k < a + n → f k ≡ None) → first_some f (range_with_len a n) ≡ None
-unfolding first_some
-none-first f a zero none = refl
-none-first f a (suc n) none =
-    ap (λ (o : Option _). option_or o (first_some f (range_with_len (a + 1) n))) (none a (omega arith) (omega arith))
-    ∙ none-first f (a + 1) n (λ k low high. none k (omega (arith, low)) (omega (arith, high)))
-
-one-first : {A : Type 0} (f : ℕ → Option A) (a n k : ℕ) (x : A) → a ≤ k → k < a + n → f k ≡ Some x → ((j : ℕ) → a ≤ j → j < k → f j ≡ None) → first_some f (range_with_len a n) ≡ Some x
-unfolding first_some
-one-first f a zero k x low high is none = absurd (omega (arith, low, high))
-one-first f a (suc n) k x low high is none =
-    elim (lt_or_le a k) [
-      | inl w ↦ ap (λ (o : Option _). option_or o (first_some f (range_with_len (a + 1) n))) (none a (omega arith) w)
-          ∙ one-first f (a + 1) n k x (omega (arith, w)) (omega (arith, high)) is (λ j l h. none j (omega (arith, l)) h)
-      | inr w ↦
-          let e : k ≡ a = omega (arith, low, w) in
-          ap (λ (o : Option _). option_or o (first_some f (range_with_len (a + 1) n))) (ap f (sym e) ∙ is)
-    ]
-
-find-same : {A : Type 0} (f g : A → Bool) (xs : List A) → ((x : A) → f x ≡ g x) → find f xs ≡ find g xs
-find-same f g [] same = refl
-find-same f g (x ∷ xs) same = ap (λ b. cond b (Some x) (find f xs)) (same x) ∙ ap (λ o. cond (g x) (Some x) o) (find-same f g xs same)
-
-any-same : (f g : ℕ → Bool) (xs : List ℕ) → ((q : ℕ) → Has xs q → f q ≡ g q) → list_any f xs ≡ list_any g xs
-any-same f g [] same = refl
-any-same f g (x ∷ xs) same = ap (λ b. b || list_any f xs) (same x (has-here x xs)) ∙ ap (λ b. g x || b) (any-same f g xs (λ q is. same q (or_right (x == q) (list_any (λ y. y == q) xs) is)))
-
--- ---- the domain of what overflows
-
-nothing_fine : (r : RunData) → overflow_in r.plan nothing ≡ None
-unfolding nothing
-nothing_fine r = find-None (overflows_at nothing) (spots r.plan 0) (λ x i. refl)
-
-table_domain : (r : RunData) (g : Grids) (e : Entry) (it : Item) (x : Spot) → overflow_in r.plan (table_change r.plan r.answers g e.domain e.step it) ≡ Some x → (table_change r.plan r.answers g e.domain e.step it).domain ≡ e.domain
-unfolding table_change
-table_domain r g e (item.Halo parts) x h = let bad : None ≡ Some x = sym (nothing_fine r) ∙ h in absurd (cc (bad))
-table_domain r g e (item.Period parts) x h = let bad : None ≡ Some x = sym (nothing_fine r) ∙ h in absurd (cc (bad))
-table_domain r g e (item.Swap one two) x h = refl
-table_domain r g e (item.Phase ph) x h = refl
-
-act_domain : (r : RunData) (g : Grids) (e : Entry) (act : Act) (x : Spot) → overflow_in r.plan (act_change r g e act) ≡ Some x → (act_change r g e act).domain ≡ receiver_of r.plan e act
-act_domain r g e Start x h = refl
-act_domain r g e Force x h = refl
-act_domain r g e Feedback x h = refl
-act_domain r g e (Table n) x h = table_domain r g e (item_of r.plan n) x h
-act_domain r g e (Emit s) x h = let bad : None ≡ Some x = sym (nothing_fine r) ∙ h in absurd (cc (bad))
-
-change_domain : (r : RunData) (n : ℕ) (x : Spot) → overflow_in r.plan (change_at r n) ≡ Some x → (change_at r n).domain ≡ domain_at r n
-unfolding change_of
-change_domain r n x h = act_domain r (grids_at r n) (entry_at r n) (entry_at r n).act x h
 
 module _ (r : RunData) (layout : Layout) (ok : IsAccepted r layout) (s : CoreState) (sane_s : Sane r layout s) (end : IsFinished r layout s) (o : Overflow) (out : outcome_of r ≡ Err o) where
   abbrev n : ℕ

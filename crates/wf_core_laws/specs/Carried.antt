@@ -1,5 +1,5 @@
 -- What messages and pieces carry: the numbers of the lockstep run.
-use Rattle.std.specs.Prelude.{◌≡◌, ℕ, ◌==◌, List, map, Option, Some, slice_get, IsTrue}
+use Rattle.std.specs.Prelude.{◌≡◌, ◌==◌, map, Some, slice_get, IsTrue}
 use Rattle.std.specs.List.{list_any}
 use Rattle.wf_model.specs.declared.layout.Layout.{Layout}
 use Rattle.wf_model.specs.declared.frame.Frame.{Frame}

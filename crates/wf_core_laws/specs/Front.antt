@@ -1,5 +1,5 @@
 -- The lockstep run and the front.
-use Rattle.std.specs.Prelude.{◌≡◌, ℕ, ◌≤◌, List, length, map, flat_map, fold, pos, ◌+ℤ◌}
+use Rattle.std.specs.Prelude.{◌≡◌, ℕ, ◌≤◌, length, map, flat_map, fold, pos, ◌+ℤ◌}
 use Rattle.wf_model.specs.declared.layout.Layout.{Layout}
 use Rattle.wf_model.specs.Plans.{domains_of}
 use Rattle.wf_model.specs.Outcome.{RunData, script}

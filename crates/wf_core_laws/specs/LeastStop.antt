@@ -1,10 +1,8 @@
 -- The least stop of a state: by place, and then by level, k, j and i of the point that a stopped patch names.
-use Rattle.std.specs.Prelude.{ℕ, ◌==◌, Bool, List, [], ◌∷◌, length, find, Option, Some, None, option_map, Result, Ok, Err, if◌then◌else◌}
+use Rattle.std.specs.Prelude.{ℕ, ◌==◌, List, [], ◌∷◌, length, find, Option, Some, None, option_map, Result, Ok, Err, if◌then◌else◌}
 use Rattle.std.specs.Option.{option_or}
 use Rattle.std.specs.List.{list_any, range_with_len}
 use Rattle.wf_model.specs.declared.layout.Layout.{Layout}
-use Rattle.wf_model.specs.declared.point.Point.{Point}
-use Rattle.wf_model.specs.declared.script.Entry.{Entry}
 use Rattle.wf_model.specs.Grids.{Grids}
 use Rattle.wf_model.specs.Changes.{Spot, spots}
 use Rattle.wf_model.specs.Outcome.{RunData, Overflow, script, entry_at, what_of}

@@ -1,5 +1,5 @@
 -- The patches and messages of a run, and what is told of a state by how far each patch has come.
-use Rattle.std.specs.Prelude.{◌≡◌, ℕ, suc, ◌<◌, ◌≤◌, ◌&&◌, nat_lt, Bool, true, false, length, Option, Some, None, slice_get, if◌then◌else◌, IsTrue}
+use Rattle.std.specs.Prelude.{◌≡◌, ℕ, suc, ◌≤◌, ◌&&◌, nat_lt, Bool, true, false, length, Some, None, slice_get, if◌then◌else◌, IsTrue}
 use Rattle.wf_model.specs.declared.plan.Plan.{Plan}
 use Rattle.wf_model.specs.declared.layout.Layout.{Layout}
 use Rattle.wf_model.specs.declared.script.Entry.{Entry}

@@ -1,5 +1,5 @@
 -- Where a run stops first.
-use Rattle.std.specs.Prelude.{◌≡◌, ℕ, suc, ◌<◌, ◌≤◌, ◌==◌, ◌&&◌, Bool, true, false, length, is_some, Option, Some, Ok, Err}
+use Rattle.std.specs.Prelude.{◌≡◌, ℕ, suc, ◌<◌, ◌≤◌, ◌==◌, ◌&&◌, true, false, length, is_some, Some, Ok, Err}
 use Rattle.wf_model.specs.declared.layout.Layout.{Layout}
 use Rattle.wf_model.specs.Grids.{Grids}
 use Rattle.wf_model.specs.Outcome.{RunData, Overflow, script, outcome_of}
