@@ -5,4 +5,5 @@ pub mod Ends
 pub mod Stops
 pub mod LeastStop
 pub mod EventCount
+pub mod PieceCount
 pub mod EveryList
