@@ -18,6 +18,7 @@ use Rattle.wf_model.specs.Core.{CoreState, PatchAt, frame_at, due_of, setting_at
 use Rattle.wf_model.specs.Replay.{is_piece, may_step, may_take, go, is_enabled, state_after_event, if_enabled, replay_from, replay}
 use Rattle.wf_model.specs.Front.{halves_before}
 use Rattle.wf_core_laws.specs.PieceCount.{has_posted, pieces_out, EachPieceIsThereOnce}
+use Rattle.wf_core_laws.proofs.Replays.{reached}
 use Rattle.wf_core_laws.proofs.Places.{due_here, lt_or_le}
 use Rattle.wf_core_laws.proofs.Members.{Has}
 use Rattle.wf_core_laws.proofs.Counts.{one_if, count-append, count-parts, count-none, count-map, count-once}
@@ -170,23 +171,13 @@ module _ (r : RunData) (layout : Layout) where
   }
   once_kept s (Write n) old on = record { is = old.is }
 
-  once_from : (s : CoreState) (es : List Event) (t : CoreState) → Once s → replay_from r layout s es ≡ Some t → Once t
-  unfolding replay_from
-  once_from s [] t old h = let e : s ≡ t = cc (h) in subst Once e old
-  once_from s (x ∷ es) t old h =
-      (elim (is_enabled r layout s x) as (λ b. is_enabled r layout s x ≡ b → and_then (if_enabled b (state_after_event r layout s x)) (λ u. replay_from r layout u es) ≡ Some t → Once t) [
-        | true ↦ λ on go. once_from (state_after_event r layout s x) es t (once_kept s x old on) go
-        | false ↦ λ off none. absurd (cc (none))
-      ]) refl h
-
   once_begin : Once (begin_state r layout)
   unfolding begin_state
   once_begin = record { is = λ i f v p at is_v. sym (choose_none (nat_lt (halves_before r f.domain f.place) 0) (le-ltb (halves_before r f.domain f.place) 0 (omega arith))) }
 
   -- in each state that a run can reach
   pub once : (es : List Event) (s : CoreState) → replay r layout es ≡ Some s → Once s
-  unfolding replay
-  once es s h = once_from (begin_state r layout) es s once_begin h
+  once es s h = reached r layout Once once_kept once_begin es s h
 
 pub each_piece_is_there_once : EachPieceIsThereOnce
 each_piece_is_there_once r layout s i f v p h at is_v there = (once r layout h.0 s h.1).is i f v p at is_v
