@@ -31,11 +31,13 @@ module _ (r : RunData) (layout : Layout) where
       let a : At r layout d (s.patches d p).done due = due-at r layout d (s.patches d p).done due is in
       (ok.placed d p).live due.place (omega (arith, a.is))
 
+  -- a patch that is stopped stops with the front
   stops_with : (s : CoreState) (d p : ℕ) → Sane r layout s → (s.patches d p).is_stopped ≡ true → StopsWithTheFront r layout s d p
   stops_with s d p ok st =
       let stop : StopsAt r layout d p (s.patches d p).done = ok.stopped d p st in
       record { due = stop.due; is = stop.is; front = ap (λ (x : Stand). x.is_stopped) (stopped_next r layout d p (s.patches d p).done (s.patches d p).memory (ok.placed d p) stop) }
 
+  -- a message is expected by its receiver
   pub expected_of : (k : ℕ) (e : Entry) (q p : ℕ) → IsMessage r layout k e q p → Expected r layout k e q p
   expected_of k e q p m = record {
     entry = m.entry;
@@ -44,6 +46,7 @@ module _ (r : RunData) (layout : Layout) where
     to = has-range 0 (layout.nproc_x * layout.nproc_y) p (omega arith) (omega (arith, m.to));
   }
 
+  -- a letter that no message of the run is does not lie in the mail
   none_other : (s : CoreState) (k q p : ℕ) (o : Option Letter) → All (LetterAt r layout) s.mail → letter_of s k q p ≡ o → ((e : Entry) → IsMessage r layout k e q p → ⊥) → o ≡ None
   none_other s k q p None all is no_such = refl
   none_other s k q p (Some l) all is no_such =
@@ -56,6 +59,7 @@ module _ (r : RunData) (layout : Layout) where
       let m : IsMessage r layout l.place a.e l.from l.to = message_of r layout l.place a.e l.from l.to a.entry a.cells (a.there).patch a.to in
       absurd (no_such a.e (subst (IsMessage r layout k a.e q) to (subst (λ (y : ℕ). IsMessage r layout k a.e y l.to) from (subst (λ (y : ℕ). IsMessage r layout y a.e l.from l.to) place m))))
 
+  -- each state that a run can reach is in canonical form
   pub canonical : (es : List Event) (s : CoreState) → replay r layout es ≡ Some s → IsCanonical r layout s
   canonical es s h =
       let ok : Sane r layout s = sane r layout es s h in

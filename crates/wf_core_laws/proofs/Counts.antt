@@ -73,6 +73,7 @@ count-past v a (suc n) h =
           omega (arith, none, count-cons (λ x. x == v) a (range_with_len (a + 1) n), count-past v (a + 1) n (omega (arith, h)))
     ]
 
+-- a number of a range stands in it once
 count-range : (v a n : ℕ) → Has (range_with_len a n) v → count_by (λ x. x == v) (range_with_len a n) ≡ 1
 count-range v a zero h = absurd (cc (h))
 count-range v a (suc n) h =

@@ -34,14 +34,17 @@ map-In f g [] h = refl
 map-In f g (x ∷ xs) h = λ n. h x (inl refl) n ∷ map-In f g xs (λ y t. h y (inr t)) n
 
 module _ (r : RunData) (layout : Layout) (ok : IsAccepted r layout) where
+  -- the entry at a place, by its look-up
   entry_is : (k : ℕ) (e : Entry) → slice_get (script r) k ≡ Some e → entry_at r k ≡ e
   unfolding entry_at
   entry_is k e h = get_or_from_slice_get (script r) k e no_entry h
 
+  -- the frame with a number, by its look-up
   frame_is : (n : ℕ) (f : Frame) → slice_get (frames_of r) n ≡ Some f → frame_of r n ≡ f
   unfolding frame_of
   frame_is n f h = get_or_from_slice_get (frames_of r) n f no_frame h
 
+  -- a letter with the lockstep run's numbers has its message's
   letter_holds : (l : Letter) → IsLockstepLetter r layout l → HasMessageNumbers r layout l
   letter_holds l a =
       let m : IsMessage r layout l.place a.e l.from l.to = a.message in
@@ -49,16 +52,19 @@ module _ (r : RunData) (layout : Layout) (ok : IsAccepted r layout) where
       ∙ ap (λ (x : Entry). map (memory_point r.plan (sender_of r.plan x x.act) (memory_at r layout l.place (sender_of r.plan x x.act) l.from)) (carried r.plan (split_of layout) x x.act l.from l.to)) (sym (entry_is l.place a.e m.entry))
       ∙ senders_send r layout l.place l.from l.to ok (slice_get_within (script r) l.place a.e m.entry) m.from
 
+  -- so have all letters
   pub letters_hold : (s : CoreState) → All (IsLockstepLetter r layout) s.mail → All (HasMessageNumbers r layout) s.mail
   letters_hold s all = All-weaker (IsLockstepLetter r layout) (HasMessageNumbers r layout) letter_holds s.mail all
 
   module _ (n d p f : ℕ) (within : n ≤ length (script r)) (is : IsDomain r.plan d) (hp : IsPatch layout p) where
+    -- a cell of the own box is an own cell
     own_cell : (c : Cell) → In c (cells_in r.plan f (own_box r.plan (split_of layout) d p f)) → is_own r.plan (split_of layout) d p c.field c.j c.i ≡ true
     unfolding is_own
     own_cell c h =
         let e : IsCellIn r.plan f (own_box r.plan (split_of layout) d p f) c = In-cells_out r.plan f (own_box r.plan (split_of layout) d p f) c h in
         subst (λ (g : ℕ). in_box (own_box r.plan (split_of layout) d p g) c.j c.i ≡ true) (sym e.field) e.box
 
+    -- on a level of its field
     own_level : (c : Cell) → In c (cells_in r.plan f (own_box r.plan (split_of layout) d p f)) → (1 ≤ c.k) × (c.k ≤ nz r.plan c.field)
     own_level c h =
         let e : IsCellIn r.plan f (own_box r.plan (split_of layout) d p f) c = In-cells_out r.plan f (own_box r.plan (split_of layout) d p f) c h in
@@ -77,6 +83,7 @@ module _ (r : RunData) (layout : Layout) (ok : IsAccepted r layout) where
         ∙ ap (λ (q : ℕ). memory_at r layout n d q c.field c.k (pos (point_y r.plan d c.field c.j)) (pos (point_x r.plan d c.field c.i)))
         (owner_is r.plan (split_of layout) d room c p hp (place-domain r.plan (split_of layout) d room c.field c.j c.i inside) own_point)
 
+    -- so the own numbers are the frame's
     own_numbers_are : map (cell_number (memory_at r layout n d p)) (cells_in r.plan f (own_box r.plan (split_of layout) d p f)) ≡ map (grid_cell r.plan d (numbers_at r layout n)) (cells_in r.plan f (own_box r.plan (split_of layout) d p f))
     unfolding numbers_at
     own_numbers_are =
@@ -89,6 +96,7 @@ module _ (r : RunData) (layout : Layout) (ok : IsAccepted r layout) where
               ∙ ap (λ b. map (grid_cell r.plan d (if b then grids_in_patches r layout n else grids_at r n)) cells) (sym up)
         ]
 
+  -- a piece with the lockstep run's numbers has its frame's
   piece_holds : (x : Posted) → IsLockstepPiece r layout x → HasFrameNumbers r layout x
   unfolding piece_numbers
   piece_holds x a =
@@ -99,5 +107,6 @@ module _ (r : RunData) (layout : Layout) (ok : IsAccepted r layout) where
       ∙ own_numbers_are f.place f.domain x.patch x.field (omega (arith, fa.place, slice_get_within (script r) fa.k fa.e fa.entry)) at.domain at.patch
       ∙ ap (λ (g : Frame). map (grid_cell r.plan g.domain (numbers_at r layout g.place)) (cells_in r.plan x.field (own_box r.plan (split_of layout) g.domain x.patch x.field))) (sym (frame_is x.frame f a.frame))
 
+  -- so have all pieces
   pub pieces_hold : (xs : List Posted) → All (IsLockstepPiece r layout) xs → All (HasFrameNumbers r layout) xs
   pieces_hold xs all = All-weaker (IsLockstepPiece r layout) (HasFrameNumbers r layout) piece_holds xs all

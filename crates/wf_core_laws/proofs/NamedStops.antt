@@ -26,20 +26,13 @@ use Rattle.wf_laws.proofs.Bools.{and_left}
 use Rattle.wf_laws.proofs.GoOn.{nothing_goes, fetch_goes}
 use Rattle.wf_laws.proofs.PatchLaws.{no_stop}
 use Rattle.wf_core_laws.specs.Patches.{IsDomainPatch}
+use Rattle.wf_core_laws.proofs.Options.{or_none, none_or}
 use Rattle.wf_core_laws.proofs.Members.{Has, any-none, flat_map-same, has-filter}
 use Rattle.wf_core_laws.proofs.FrontLaws.{front-next}
 use Rattle.wf_core_laws.proofs.Progress.{There}
 use Rattle.wf_core_laws.proofs.PatchForms.{there_of, patch_of, patch_has}
 use Rattle.wf_core_laws.proofs.LockstepLaws.{lockstep_front}
 use Rattle.wf_core_laws.proofs.ScriptLaws.{closed}
-
--- a choice of which one has nothing
-or_none : {X : Type 0} (o p : Option X) → p ≡ None → option_or o p ≡ o
-or_none None p e = e
-or_none (Some x) p e = refl
-
-none_or : {X : Type 0} (o p : Option X) → o ≡ None → option_or o p ≡ p
-none_or o p e = ap (λ (x : Option _). option_or x p) e
 
 -- where a receiving half is, it is the last
 last_takes : (a b : Bool) → b ≡ true → last_half ((if a then (sends ∷ []) else []) ++ (if b then (takes ∷ []) else [])) ≡ takes
@@ -66,11 +59,13 @@ module _ (r : RunData) (layout : Layout) (e : Entry) (p : ℕ) where
   stops_failing f d m takes full = ap (λ b. b || is_some (least_failure r.plan (split_of layout) d p (taking r (split_of layout) e e.act p (mail_to r layout f e p) m))) full
   stops_failing f d m (posts levels) full = refl
 
+  -- what a patch names: where its computing half overflows, or else its receiving one
   abbrev both_fail : Act → (ℕ → Memory) → Mail → Option Spot
   both_fail act ms mail =
       option_or (least_failure r.plan (split_of layout) e.domain p (computing r (split_of layout) e act p (ms e.domain)))
       (least_failure r.plan (split_of layout) (receiver_of r.plan e act) p (taking r (split_of layout) e act p mail (ms (receiver_of r.plan e act))))
 
+  -- a half that sets nothing names nothing
   silent : (o : Option Spot) (d : ℕ) → option_or (least_failure r.plan (split_of layout) d p sets_nothing) o ≡ o
   silent o d = none_or (least_failure r.plan (split_of layout) d p sets_nothing) o (nothing_goes r.plan (split_of layout) d p)
 
@@ -99,6 +94,7 @@ module _ (r : RunData) (layout : Layout) (e : Entry) (p : ℕ) where
       ap (λ (b : Bool). half_fails (Emit s) (ms e.domain) mail e.domain (last_half (if b then (posts (stream_levels r.plan s) ∷ []) else []))) (eq-eqb e.domain e.domain refl)
       ∙ sym (silent (least_failure r.plan (split_of layout) e.domain p sets_nothing) e.domain ∙ nothing_goes r.plan (split_of layout) e.domain p)
 
+  -- a sending half and no half name nothing
   choose_quiet : (act : Act) (m : Memory) (mail : Mail) (d : ℕ) (b : Bool) → half_fails act m mail d (if b then sends else posts []) ≡ None
   choose_quiet act m mail d true = refl
   choose_quiet act m mail d false = refl
@@ -111,6 +107,7 @@ module _ (r : RunData) (layout : Layout) (e : Entry) (p : ℕ) where
   none_fails (Table n) m mail d off = ap (λ (b : Bool). half_fails (Table n) m mail d (last_half (if b then item_halves (item_of r.plan n) else []))) off
   none_fails (Emit s) m mail d off = ap (λ (b : Bool). half_fails (Emit s) m mail d (last_half (if b then (posts (stream_levels r.plan s) ∷ []) else []))) off
 
+-- who stops is stopped, and who goes through is not
 stopped_after : (b : Bool) (c : Setting) (m : Memory) → (stand_after b c m).is_stopped ≡ b
 stopped_after true c m = refl
 stopped_after false c m = refl
@@ -121,9 +118,11 @@ module _ (r : RunData) (layout : Layout) (ok : IsAccepted r layout) where
   going n d p up is = sym (lockstep_front r layout n d p (closed r (ok.sound).some) (there_of r layout d p is)).1 ∙ (no_stop r layout n d p ok up is.domain is.patch).going
 
   module _ (n : ℕ) (up : IsUpToOverflow r n) (within : n < length (script r)) where
+    -- the entry at the place
     abbrev e : Entry
     e = entry_at r n
 
+    -- it is the script's there
     pub entry_here : slice_get (script r) n ≡ Some (entry_at r n)
     unfolding entry_at
     entry_here = slice_get-get_or (script r) n no_entry within
@@ -135,6 +134,7 @@ module _ (r : RunData) (layout : Layout) (ok : IsAccepted r layout) where
       patch = and_left _ _ (sym (has-filter (λ q. is_expected r.plan (split_of layout) (entry_at r n) q p) (patches_of (split_of layout)) q) ∙ is);
     }
 
+    -- so no patch lacks mail there
     lacks_nothing : (p : ℕ) → lacks_mail r layout (front r layout n) (entry_at r n) p ≡ false
     lacks_nothing p =
         let sd = sender_of r.plan (entry_at r n) (entry_at r n).act in
@@ -148,6 +148,7 @@ module _ (r : RunData) (layout : Layout) (ok : IsAccepted r layout) where
         ap (λ (m : Memory). zip (carried r.plan (split_of layout) (entry_at r n) (entry_at r n).act q p) (map (memory_point r.plan sd m) (carried r.plan (split_of layout) (entry_at r n) (entry_at r n).act q p)))
         (sym (lockstep_front r layout n sd q (closed r (ok.sound).some) (sender_there q p is)).0))
 
+    -- a patch is stopped after the place exactly where its last half fails there
     next_stopped : (d p : ℕ) → IsDomainPatch r.plan layout d p → (front r layout (suc n) d p).is_stopped
         ≡ is_some (half_fails r layout (entry_at r n) p (entry_at r n).act (front r layout n d p).memory (mail_to r layout (front r layout n) (entry_at r n) p) d (last_half (act_halves r.plan d (entry_at r n) (entry_at r n).act)))
     unfolding half_effect
@@ -164,6 +165,7 @@ module _ (r : RunData) (layout : Layout) (ok : IsAccepted r layout) where
     pub domain_here : Has (domains_of r.plan) (domain_at r n)
     domain_here = (closed r (ok.sound).some).receiver n (entry_at r n) entry_here
 
+    -- where that half fails is what the patch names
     pub half_names : (p : ℕ) → IsPatch layout p → half_fails r layout (entry_at r n) p (entry_at r n).act (front r layout n (domain_at r n) p).memory (mail_to r layout (front r layout n) (entry_at r n) p) (domain_at r n) (last_half (act_halves r.plan (domain_at r n) (entry_at r n) (entry_at r n).act))
         ≡ named_at r layout n p
     half_names p hp =

@@ -34,12 +34,14 @@ range-has a (suc n) k h =
     ]
 
 module _ (r : RunData) (layout : Layout) (d p : ℕ) where
+  -- a patch by its numbers is one of the lists
   pub there_of : IsDomainPatch r.plan layout d p → There r layout d p
   there_of is = record {
     domain = has-range 1 (length (r.plan).domains) d ((is.domain).0) (omega (arith, (is.domain).1));
     patch = has-range 0 (layout.nproc_x * layout.nproc_y) p (omega arith) (omega (arith, is.patch));
   }
 
+  -- and one of the lists has its numbers
   pub patch_of : There r layout d p → IsDomainPatch r.plan layout d p
   patch_of at =
       let dom = range-has 1 (length (r.plan).domains) d at.domain in

@@ -1,5 +1,5 @@
 -- Each piece is there once: posted or gathered where its patch has come past the emit.
-use Rattle.std.proofs.Common.{◌≡◌, inl, inr, ℕ, suc, ◌+◌, ◌==◌, ◌&&◌, nat_lt, Bool, true, false, List, [], ◌∷◌, length, Option, Some, refl, ap, sym, ◌∙◌, subst, arith}
+use Rattle.std.proofs.Common.{◌≡◌, inl, inr, ℕ, suc, ◌+◌, ◌==◌, ◌&&◌, nat_lt, Bool, true, false, List, length, Option, Some, refl, ap, sym, ◌∙◌, subst, arith}
 use Rattle.std.specs.Prelude.{slice_get, filter, count_by}
 use Rattle.std.proofs.lemmas.Bool.{lt-ltb, le-ltb, eq-eqb}
 use Rattle.std.proofs.lemmas.Bool.Decides.{eqb_tells}
@@ -8,21 +8,20 @@ use Rattle.wf_model.specs.declared.frame.Frame.{Frame}
 use Rattle.wf_model.specs.declared.script.Entry.{Entry}
 use Rattle.wf_model.specs.declared.event.Event.{Event}
 use Rattle.wf_model.specs.declared.event.Event.TheVariants.{Step, Take, Stop, Gather, Write}
-use Rattle.wf_model.specs.Numbers.{and_then}
 use Rattle.wf_model.specs.Outcome.{RunData, script}
 use Rattle.wf_model.specs.Frames.{frames_of, variables_of}
 use Rattle.wf_model.specs.Streams.{stream_levels, is_in_stream}
 use Rattle.wf_model.specs.PatchEffect.{after_setting}
 use Rattle.wf_model.specs.Halves.{Half, acts, sends, takes, posts, Due}
 use Rattle.wf_model.specs.Core.{CoreState, PatchAt, frame_at, due_of, setting_at, piece_of, new_pieces, after_half, after_stop, begin_state}
-use Rattle.wf_model.specs.Replay.{is_piece, may_step, may_take, go, is_enabled, state_after_event, if_enabled, replay_from, replay}
+use Rattle.wf_model.specs.Replay.{is_piece, may_step, may_take, go, is_enabled, state_after_event, replay}
 use Rattle.wf_model.specs.Front.{halves_before}
+use Rattle.wf_core_laws.proofs.PostsAt.{posts-emit, posts-domain}
 use Rattle.wf_core_laws.specs.PieceCount.{has_posted, pieces_out, EachPieceIsThereOnce}
 use Rattle.wf_core_laws.proofs.Replays.{reached}
 use Rattle.wf_core_laws.proofs.Places.{due_here, lt_or_le}
 use Rattle.wf_core_laws.proofs.Members.{Has}
 use Rattle.wf_core_laws.proofs.Counts.{one_if, count-append, count-parts, count-none, count-map, count-once}
-use Rattle.wf_core_laws.proofs.HalvesAt.{posts-emit, posts-domain}
 use Rattle.wf_core_laws.proofs.FrontLaws.{At, due-at, halves_before-rises}
 use Rattle.wf_core_laws.proofs.Sane.{each-patch, with-same}
 use Rattle.wf_core_laws.proofs.Kept.{due_here_of}
@@ -31,10 +30,12 @@ use Rattle.wf_core_laws.proofs.FrameLaws.{emits, FrameOf, frame_there}
 use Rattle.wf_core_laws.proofs.Pieces.{emit_one, emit_half}
 use Rattle.wf_model.specs.declared.script.Act.TheVariants.{Emit}
 
+-- one, where the test holds
 choose_one : (b : Bool) → b ≡ true → one_if b ≡ 1
 choose_one true h = refl
 choose_one false h = absurd (cc (h))
 
+-- none, where it fails
 choose_none : (b : Bool) → b ≡ false → one_if b ≡ 0
 choose_none true h = absurd (cc (h))
 choose_none false h = refl
@@ -49,6 +50,7 @@ module _ (r : RunData) (layout : Layout) where
     place : f.place ≡ k
     domain : f.domain ≡ e.domain
 
+  -- the frame with that number is it
   is_of : (i k s : ℕ) (e : Entry) (f : Frame) → slice_get (script r) k ≡ Some e → (e.act ≡ Emit s) → slice_get (frames_of r) i ≡ Some f → frame_at r layout k ≡ i → IsOf i k e f
   is_of i k s e f entry act at same =
       let g : FrameOf (frames_of r) (emits (script r) k) k e.domain s = frame_there r k e s entry act in
@@ -57,6 +59,7 @@ module _ (r : RunData) (layout : Layout) where
       record { place = ap (λ (x : Frame). x.place) (sym w) ∙ g.place_is; domain = ap (λ (x : Frame). x.domain) (sym w) ∙ g.domain_is }
 
   module _ (s : CoreState) (d q : ℕ) (due : Due) (is : due_of r layout s d q ≡ Some due) (i : ℕ) (f : Frame) (v p : ℕ) (at : slice_get (frames_of r) i ≡ Some f) (is_v : Has (variables_of r f) v) where
+    -- where the half stands
     here : At r layout d (s.patches d q).done due
     here = due-at r layout d (s.patches d q).done due is
 
@@ -96,9 +99,11 @@ module _ (r : RunData) (layout : Layout) where
         and_true true = refl
         and_true false = refl
 
+    -- the patch after the half
     abbrev new_patch : PatchAt
     new_patch = record { done = (s.patches d q).done + 1; memory = after_setting (setting_at r layout s d q due) (s.patches d q).memory; is_stopped = false }
 
+    -- the state after it
     abbrev t : CoreState
     t = after_half r layout s d q due
 
@@ -111,6 +116,7 @@ module _ (r : RunData) (layout : Layout) where
         → pieces_out t i v p ≡ one_if (has_posted r t f p)
     unchanged old none same = let step : pieces_out t i v p ≡ pieces_out s i v p = omega (arith, out_after, none) in step ∙ old ∙ ap one_if (sym same)
 
+    -- a half keeps the count
     once_half : pieces_out s i v p ≡ one_if (has_posted r s f p) → pieces_out t i v p ≡ one_if (has_posted r t f p)
     once_half old =
         elim (eqb_tells f.domain d) [
@@ -153,9 +159,11 @@ module _ (r : RunData) (layout : Layout) where
               ]
             ]
 
+  -- going on keeps it
   once_go : (s : CoreState) (d q : ℕ) (due : Due) → Once s → due_of r layout s d q ≡ Some due → Once (go r layout s d q (due_of r layout s d q))
   once_go s d q due old is = subst (λ (o : Option Due). Once (go r layout s d q o)) (sym is) (record { is = λ i f v p at is_v. once_half s d q due is i f v p at is_v (old.is i f v p at is_v) })
 
+  -- each event keeps it
   once_kept : (s : CoreState) (e : Event) → Once s → is_enabled r layout s e ≡ true → Once (state_after_event r layout s e)
   unfolding is_enabled state_after_event
   once_kept s (Step d q) old on = let w = due_here_of r layout (may_step r layout) s d q on in once_go s d q w.due old w.is
@@ -171,6 +179,7 @@ module _ (r : RunData) (layout : Layout) where
   }
   once_kept s (Write n) old on = record { is = old.is }
 
+  -- at the begin there are no pieces
   once_begin : Once (begin_state r layout)
   unfolding begin_state
   once_begin = record { is = λ i f v p at is_v. sym (choose_none (nat_lt (halves_before r f.domain f.place) 0) (le-ltb (halves_before r f.domain f.place) 0 (omega arith))) }
@@ -179,5 +188,6 @@ module _ (r : RunData) (layout : Layout) where
   pub once : (es : List Event) (s : CoreState) → replay r layout es ≡ Some s → Once s
   once es s h = reached r layout Once once_kept once_begin es s h
 
+-- the law on the count of pieces
 pub each_piece_is_there_once : EachPieceIsThereOnce
 each_piece_is_there_once r layout s i f v p h at is_v there = (once r layout h.0 s h.1).is i f v p at is_v

@@ -41,6 +41,7 @@ take-passing test (x ∷ xs) (suc n) within pass =
       subst (λ (b : Bool). suc n ≤ length (cond b (x ∷ filter test xs) (filter test xs))) (sym here) more,
     )
 
+-- taking more than all takes all
 take_whole : {A : Type 0} (xs : List A) (n : ℕ) → length xs ≤ n → take n xs ≡ xs
 take_whole [] zero h = refl
 take_whole [] (suc n) h = refl
@@ -61,6 +62,7 @@ module _ (r : RunData) (layout : Layout) where
             (omega (arith, held.written i f d p lt at (there_of r layout d p first.at), halves_before-rises r layout d (suc place) (suc f.place) (omega (arith, w))))))
       ]
 
+  -- the frames written, by the outcome
   by_outcome : (ok : IsAccepted r layout) (es : List Event) (s : CoreState) (o : Result Grids Overflow) → replay r layout es ≡ Some s → outcome_of r ≡ o →
       (take s.written (frames_of r) ≡ take s.written (up_to_overflow o (frames_of r))) × (s.written ≤ length (up_to_overflow o (frames_of r)))
   by_outcome ok es s (Ok g) h out = (refl, (written_before r layout es s h).fits)
@@ -68,6 +70,7 @@ module _ (r : RunData) (layout : Layout) where
       take-passing (λ (f : Frame). nat_lt f.place o.place) (frames_of r) s.written (written_before r layout es s h).fits
       (λ i f at lt. lt-ltb f.place o.place (written_early es s o.place i f h (first_stop r layout ok o out) lt at))
 
+  -- and those of a full list
   full_by : (ok : IsAccepted r layout) (es : List Event) (f : IsFull r layout es) (o : Result Grids Overflow) → outcome_of r ≡ o → take (f.0).written (frames_of r) ≡ frames_written r
   full_by ok es f (Err o) out =
       written_outcome r layout f.0 o (sane r layout es f.0 f.1) (end_of_run r layout es f.0 (closed r (ok.sound).some) f.1 (quiet r layout f.0 f.2)) (written_before r layout es f.0 f.1) out (first_stop r layout ok o out)
@@ -81,8 +84,10 @@ module _ (r : RunData) (layout : Layout) where
       ] in
       take_whole (frames_of r) s.written all ∙ ap (λ (o : Result Grids Overflow). up_to_overflow o (frames_of r)) (sym out)
 
+-- the law on the frames of a state
 pub frames_written_are_the_runs : FramesWrittenAreTheRuns
 frames_written_are_the_runs r layout s ok h = by_outcome r layout ok h.0 s (outcome_of r) h.1 refl
 
+-- the law on the frames of a full list
 pub full_lists_write_the_runs_frames : FullListsWriteTheRunsFrames
 full_lists_write_the_runs_frames r layout es ok f = full_by r layout ok es f (outcome_of r) refl

@@ -30,6 +30,7 @@ use Rattle.wf_core_laws.specs.Ends.{IsFinished}
 use Rattle.wf_core_laws.specs.Stops.{IsFirstStop, IsStoppedAt}
 use Rattle.wf_core_laws.specs.LeastStop.{first_overflow, half_names, due_names, stop_names, least_stop_at, stop_at, least_stop}
 use Rattle.wf_core_laws.specs.EveryList.{NoPatchStopsBeforeTheOverflow, LeastStopIsTheFirstOverflow}
+use Rattle.wf_core_laws.proofs.Options.{mapped_some}
 use Rattle.wf_core_laws.proofs.Places.{lt_or_le, due_here}
 use Rattle.wf_core_laws.proofs.Members.{Has, not_both, all-made, any-none}
 use Rattle.wf_core_laws.proofs.HalvesAt.{LastOrQuiet, last-or-quiet}
@@ -44,17 +45,20 @@ use Rattle.wf_core_laws.proofs.LockstepLaws.{all_done}
 use Rattle.wf_core_laws.proofs.LeastStop.{NoStop, stop_late, stopped_there, none_stopped}
 use Rattle.wf_core_laws.proofs.NamedStops.{half_fails, going, entry_here, domain_here, half_names as front_names, stops_naming}
 use Rattle.wf_core_laws.proofs.StopForms.{none-first, one-first, find-same, any-same, change_domain}
-use Rattle.wf_core_laws.proofs.FirstStop.{mapped_some, first_stop, no_stop_at_all}
+use Rattle.wf_core_laws.proofs.FirstStop.{first_stop, no_stop_at_all}
 use Rattle.wf_core_laws.proofs.ScriptLaws.{closed}
 use Rattle.wf_core_laws.proofs.Interleavings.{quiet}
 
 module _ (r : RunData) (layout : Layout) (ok : IsAccepted r layout) (s : CoreState) (sane_s : Sane r layout s) (end : IsFinished r layout s) (o : Overflow) (out : outcome_of r ≡ Err o) where
+  -- the overflow's place
   abbrev n : ℕ
   n = o.place
 
+  -- it is that of the item there
   first : IsOverflowOfItsItem r o
   first = first_is r o out
 
+  -- there the front stops a patch first
   stop : IsFirstStop r layout o.place
   stop = first_stop r layout ok o out
 
@@ -222,12 +226,15 @@ module _ (r : RunData) (layout : Layout) where
           let at : IsDomainPatch r.plan layout d p = patch_of r layout d p (record { domain = closed_r.receiver k (entry_at r k) (here r k within); patch = is }) in
           ap (λ b. if b then due_names r layout s k d p (due_of r layout s d p) else None) (none_stopped r layout s d p sane_s none at)
 
+  -- the least stop, by the outcome
   least_by : (ok : IsAccepted r layout) (es : List Event) (f : IsFull r layout es) (o : Result Grids Overflow) → outcome_of r ≡ o → least_stop r layout f.0 ≡ first_overflow o
   least_by ok es f (Ok g) out = none_at_all f.0 (sane r layout es f.0 f.1) (no_stop_at_all r layout ok g out) (closed r (ok.sound).some)
   least_by ok es f (Err o) out = least_is r layout ok f.0 (sane r layout es f.0 f.1) (end_of_run r layout es f.0 (closed r (ok.sound).some) f.1 (quiet r layout f.0 f.2)) o out
 
+-- the law on the least stop
 pub least_stop_is_the_first_overflow : LeastStopIsTheFirstOverflow
 least_stop_is_the_first_overflow r layout es ok f = least_by r layout ok es f (outcome_of r) refl
 
+-- the law on stops before the overflow
 pub no_patch_stops_before_the_overflow : NoPatchStopsBeforeTheOverflow
 no_patch_stops_before_the_overflow r layout s n d p due ok h up at st is = stop_late r layout s n d p due (sane r layout h.0 s h.1) (going r layout ok n d p up at) st is
