@@ -1,39 +1,27 @@
 -- A state that a run can reach is in canonical form.
-use Rattle.std.proofs.Common.{◌≡◌, inl, inr, ℕ, suc, ◌<◌, ◌≤◌, ◌&&◌, nat_lt, if◌then◌else◌, Bool, true, false, List, All, Option, Some, None, length, refl, ap, sym, ◌∙◌, subst, arith, [], cond, ◌*◌, ◌==◌, ◌∷◌}
-use Rattle.std.specs.Prelude.{slice_get, find, is_some}
+use Rattle.std.proofs.Common.{◌≡◌, ℕ, ◌&&◌, true, false, List, All, Option, Some, None, length, refl, ap, subst, arith, ◌*◌, ◌==◌}
 use Rattle.std.proofs.lemmas.Bool.{eqb-true}
 use Rattle.wf_model.specs.declared.layout.Layout.{Layout}
 use Rattle.wf_model.specs.declared.script.Entry.{Entry}
 use Rattle.wf_model.specs.declared.event.Event.{Event}
 use Rattle.wf_model.specs.Outcome.{RunData, script}
-use Rattle.wf_model.specs.Patches.{split_of, patches_of}
-use Rattle.wf_model.specs.Exchange.{Letter, sender_of, receiver_of}
-use Rattle.wf_model.specs.Halves.{Due, due_after}
-use Rattle.wf_model.specs.Core.{CoreState, PatchAt, due_of, is_letter, letter_of}
+use Rattle.wf_model.specs.Exchange.{Letter}
+use Rattle.wf_model.specs.Halves.{Due}
+use Rattle.wf_model.specs.Core.{CoreState, due_of, is_letter, letter_of}
 use Rattle.wf_model.specs.Replay.{replay}
-use Rattle.wf_model.specs.Lockstep.{place_or_end, place_after}
+use Rattle.wf_model.specs.Lockstep.{place_or_end}
+use Rattle.wf_laws.proofs.Bools.{and_left, and_right}
 use Rattle.wf_core_laws.specs.Patches.{IsCanonical, IsMessage, StopsWithTheFront}
 use Rattle.wf_model.specs.Front.{Stand, front}
+use Rattle.wf_laws.proofs.Members.{find-Some, All-In}
 use Rattle.wf_core_laws.proofs.PatchForms.{has-range, message_of}
-use Rattle.wf_core_laws.proofs.Members.{Has, and_left, and_right}
 use Rattle.wf_core_laws.proofs.FrontLaws.{At, due-at}
 use Rattle.wf_core_laws.proofs.Sane.{Expected, StopsAt, Sane}
 use Rattle.wf_core_laws.proofs.Takers.{stopped_next}
 use Rattle.wf_core_laws.proofs.Kept.{sane}
-use Rattle.wf_core_laws.proofs.Progress.{There, Closed}
 use Rattle.wf_core_laws.proofs.LockstepLaws.{all_done, memory_by}
 use Rattle.wf_core_laws.proofs.Numbers.{LetterAt, carries}
 use Rattle.wf_core_laws.proofs.MailExact.{letter_exact}
-use Rattle.std.proofs.lemmas.List.Elements.{All-head, All-tail}
-
--- what a search finds, where each element of the list has a fact
-pub find_has : {A : Type 0} (P : A → Type 0) (test : A → Bool) (xs : List A) (x : A) → All P xs → find test xs ≡ Some x → P x × (test x ≡ true)
-find_has P test [] x all h = absurd (cc (h))
-find_has P test (y ∷ xs) x all h =
-    (elim (test y) as (λ b. test y ≡ b → cond b (Some y) (find test xs) ≡ Some x → P x × (test x ≡ true)) [
-      | true ↦ λ e is. let w : y ≡ x = cc (is) in (subst P w (All-head P y xs all), subst (λ (z : _). test z ≡ true) w e)
-      | false ↦ λ e is. find_has P test xs x (All-tail P y xs all) is
-    ]) refl h
 
 module _ (r : RunData) (layout : Layout) where
   -- the front has not stopped a patch before its next place
@@ -43,11 +31,13 @@ module _ (r : RunData) (layout : Layout) where
       let a : At r layout d (s.patches d p).done due = due-at r layout d (s.patches d p).done due is in
       (ok.placed d p).live due.place (omega (arith, a.is))
 
+  -- a patch that is stopped stops with the front
   stops_with : (s : CoreState) (d p : ℕ) → Sane r layout s → (s.patches d p).is_stopped ≡ true → StopsWithTheFront r layout s d p
   stops_with s d p ok st =
       let stop : StopsAt r layout d p (s.patches d p).done = ok.stopped d p st in
       record { due = stop.due; is = stop.is; front = ap (λ (x : Stand). x.is_stopped) (stopped_next r layout d p (s.patches d p).done (s.patches d p).memory (ok.placed d p) stop) }
 
+  -- a message is expected by its receiver
   pub expected_of : (k : ℕ) (e : Entry) (q p : ℕ) → IsMessage r layout k e q p → Expected r layout k e q p
   expected_of k e q p m = record {
     entry = m.entry;
@@ -56,11 +46,12 @@ module _ (r : RunData) (layout : Layout) where
     to = has-range 0 (layout.nproc_x * layout.nproc_y) p (omega arith) (omega (arith, m.to));
   }
 
+  -- a letter that no message of the run is does not lie in the mail
   none_other : (s : CoreState) (k q p : ℕ) (o : Option Letter) → All (LetterAt r layout) s.mail → letter_of s k q p ≡ o → ((e : Entry) → IsMessage r layout k e q p → ⊥) → o ≡ None
   none_other s k q p None all is no_such = refl
   none_other s k q p (Some l) all is no_such =
-      let w = find_has (LetterAt r layout) (is_letter k q p) s.mail l all is in
-      let a : LetterAt r layout l = w.0 in
+      let w = find-Some (is_letter k q p) l s.mail is in
+      let a : LetterAt r layout l = All-In (LetterAt r layout) l s.mail all w.0 in
       let rest = and_right (l.place == k) ((l.from == q) && (l.to == p)) w.1 in
       let place : l.place ≡ k = eqb-true l.place k (and_left (l.place == k) _ w.1) in
       let from : l.from ≡ q = eqb-true l.from q (and_left (l.from == q) _ rest) in
@@ -68,6 +59,7 @@ module _ (r : RunData) (layout : Layout) where
       let m : IsMessage r layout l.place a.e l.from l.to = message_of r layout l.place a.e l.from l.to a.entry a.cells (a.there).patch a.to in
       absurd (no_such a.e (subst (IsMessage r layout k a.e q) to (subst (λ (y : ℕ). IsMessage r layout k a.e y l.to) from (subst (λ (y : ℕ). IsMessage r layout y a.e l.from l.to) place m))))
 
+  -- each state that a run can reach is in canonical form
   pub canonical : (es : List Event) (s : CoreState) → replay r layout es ≡ Some s → IsCanonical r layout s
   canonical es s h =
       let ok : Sane r layout s = sane r layout es s h in

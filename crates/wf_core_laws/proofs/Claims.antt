@@ -1,6 +1,6 @@
 -- An event that is enabled stays enabled until it comes itself, whatever comes in between.
-use Rattle.std.proofs.Common.{◌≡◌, ◌⊎◌, inl, inr, ℕ, ◌%◌, ◌==◌, ◌&&◌, ◌||◌, Bool, true, false, not, List, [], ◌∷◌, All, Option, Some, None, refl, ap, sym, ◌∙◌, subst}
-use Rattle.std.specs.Prelude.{slice_get, is_some, is_none}
+use Rattle.std.proofs.Common.{◌≡◌, ◌⊎◌, inl, inr, ℕ, ◌%◌, ◌==◌, ◌&&◌, Bool, true, false, not, List, [], ◌∷◌, All, Option, Some, None, refl, ap, sym, ◌∙◌, subst}
+use Rattle.std.specs.Prelude.{slice_get, is_some}
 use Rattle.std.proofs.lemmas.Bool.{eqb-true}
 use Rattle.std.proofs.lemmas.List.Elements.{All-head, All-tail}
 use Rattle.wf_model.specs.declared.layout.Layout.{Layout}
@@ -11,25 +11,25 @@ use Rattle.wf_model.specs.Numbers.{and_then}
 use Rattle.wf_model.specs.Outcome.{RunData}
 use Rattle.wf_model.specs.Frames.{frames_of}
 use Rattle.wf_model.specs.Patches.{split_of}
-use Rattle.wf_model.specs.Exchange.{sender_of, senders_to}
+use Rattle.wf_model.specs.Exchange.{senders_to}
 use Rattle.wf_model.specs.Halves.{Half, acts, sends, takes, posts, Due}
-use Rattle.wf_model.specs.Core.{CoreState, due_of, letter_of, has_mail, is_lost, is_past}
-use Rattle.wf_model.specs.Replay.{goes, may_step, may_take, may_stop, patch_may, may_write, is_piece, variable_number, is_for_server, is_enabled, state_after_event, if_enabled, replay_from}
-use Rattle.wf_core_laws.proofs.Members.{Found, and_left, and_right, or_parts, not_both, all-at, any-found}
+use Rattle.wf_model.specs.Core.{CoreState, letter_of, has_mail, is_lost}
+use Rattle.wf_model.specs.Replay.{goes, may_step, may_take, may_stop, patch_may, variable_number, is_for_server, is_enabled, state_after_event, if_enabled, replay_from}
+use Rattle.wf_laws.proofs.Bools.{and_left, and_right, differ}
+use Rattle.wf_core_laws.proofs.Options.{some_and_none}
+use Rattle.wf_core_laws.proofs.Members.{or_parts, not_both, all-at, any-found}
 use Rattle.wf_core_laws.proofs.Sane.{Sane}
 use Rattle.wf_core_laws.proofs.Kept.{DueHere, due_here_of, kept}
 use Rattle.wf_core_laws.proofs.Persists.{Other, step_persists, take_persists, stop_persists}
 use Rattle.wf_core_laws.proofs.PersistsQuilt.{GathersOther, WritesNone, gather_persists, write_persists}
 
-some_and_none : {A : Type 0} (o : Option A) → is_some o ≡ true → is_none o ≡ true → ⊥
-some_and_none None h k = cc (h)
-some_and_none (Some x) h k = cc (k)
-
+-- a test does not hold together with its denial
 true_and_not : (b : Bool) → b ≡ true → not b ≡ true → ⊥
 true_and_not true h k = cc (k)
 true_and_not false h k = cc (h)
 
 module _ (r : RunData) (layout : Layout) where
+  -- a test of a patch's half
   abbrev Test : Type 0
   Test = CoreState → ℕ → ℕ → Due → Half → Bool
 
@@ -47,12 +47,14 @@ module _ (r : RunData) (layout : Layout) where
       let is : x.due ≡ y.due = cc (same) in
       not_both s d p y.due (y.due).half (subst (λ (u : Due). a s d p u u.half ≡ true) is x.passes) y.passes
 
+  -- no half is both stepped and taken
   step_or_take : Exclude (may_step r layout) (may_take r layout)
   step_or_take s d p due acts a b = cc (b)
   step_or_take s d p due sends a b = cc (b)
   step_or_take s d p due takes a b = cc (a)
   step_or_take s d p due (posts levels) a b = cc (b)
 
+  -- no half both steps and stops
   step_or_stop : Exclude (may_step r layout) (may_stop r layout)
   step_or_stop s d p due acts a b = true_and_not (goes r layout s d p due) a b
   step_or_stop s d p due sends a b = cc (b)
@@ -65,6 +67,7 @@ module _ (r : RunData) (layout : Layout) where
       let g = any-found _ (senders_to r.plan (split_of layout) due.entry p) lost in
       some_and_none (letter_of s due.place g.q p) (all-at (λ q. is_some (letter_of s due.place q p)) (senders_to r.plan (split_of layout) due.entry p) g.q all g.is) (and_left _ _ g.passes)
 
+  -- no half is both taken and stopped
   take_or_stop : Exclude (may_take r layout) (may_stop r layout)
   take_or_stop s d p due acts a b = cc (a)
   take_or_stop s d p due sends a b = cc (a)
@@ -75,6 +78,7 @@ module _ (r : RunData) (layout : Layout) where
       ]
   take_or_stop s d p due (posts levels) a b = cc (a)
 
+  -- excluding goes both ways
   flip : (a b : Test) → Exclude a b → Exclude b a
   flip a b h s d p due half x y = h s d p due half y x
 
@@ -105,6 +109,7 @@ module _ (r : RunData) (layout : Layout) where
   other s d p test e (Gather group server frame f q) on on2 differ step take stop = tt
   other s d p test e (Write n) on on2 differ step take stop = tt
 
+  -- two different Gathers that are enabled gather different pieces
   gathers_other : (s : CoreState) (group server frame f p : ℕ) (x : Event) → is_enabled r layout s x ≡ true → is_enabled r layout s (Gather group server frame f p) ≡ true → (x ≡ Gather group server frame f p → ⊥) → GathersOther frame f p x
   unfolding is_enabled
   gathers_other s group server frame f p (Step c q) on on2 differ = tt
@@ -118,6 +123,7 @@ module _ (r : RunData) (layout : Layout) where
       differ (ap (λ (y : ℕ). Gather y v2 frame2 f2 q) one.0 ∙ ap (λ (y : ℕ). Gather group y frame2 f2 q) one.1 ∙ ap (λ (y : ℕ). Gather group server y f2 q) (sym same_frame) ∙ ap (λ (y : ℕ). Gather group server frame y q) (sym same_f) ∙ ap (Gather group server frame f) (sym same_p))
   gathers_other s group server frame f p (Write n) on on2 differ = tt
 
+  -- beside a Write no other Write is enabled
   writes_none : (s : CoreState) (n : ℕ) (x : Event) → is_enabled r layout s x ≡ true → is_enabled r layout s (Write n) ≡ true → (x ≡ Write n → ⊥) → WritesNone x
   unfolding is_enabled
   writes_none s n (Step c q) on on2 differ = tt
@@ -127,14 +133,17 @@ module _ (r : RunData) (layout : Layout) where
   writes_none s n (Write m) on on2 differ =
       differ (ap (λ (y : ℕ). Write y) (eqb-true m s.written (and_left (m == s.written) _ on) ∙ sym (eqb-true n s.written (and_left (n == s.written) _ on2))))
 
+  -- what an enabled Step says of its patch
   open_step : (s : CoreState) (d p : ℕ) → is_enabled r layout s (Step d p) ≡ true → patch_may r layout (may_step r layout) s d p ≡ true
   unfolding is_enabled
   open_step s d p h = h
 
+  -- what an enabled Take says of its patch
   open_take : (s : CoreState) (d p : ℕ) → is_enabled r layout s (Take d p) ≡ true → patch_may r layout (may_take r layout) s d p ≡ true
   unfolding is_enabled
   open_take s d p h = h
 
+  -- what an enabled Stop says of its patch
   open_stop : (s : CoreState) (d p : ℕ) → is_enabled r layout s (Stop d p) ≡ true → patch_may r layout (may_stop r layout) s d p ≡ true
   unfolding is_enabled
   open_stop s d p h = h

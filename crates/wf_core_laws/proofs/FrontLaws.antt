@@ -11,6 +11,7 @@ use Rattle.wf_core_laws.proofs.Places.{halves_in-more, halves_in-past, half-at, 
 use Rattle.wf_core_laws.proofs.HalvesAt.{is_quiet}
 use Rattle.std.proofs.lemmas.Option.{slice_get_within}
 
+-- setting nothing leaves a patch where it stands
 quiet_stand : (b : Bool) (st : Stand) → st.is_stopped ≡ b → unless_stopped b st (stand_after false sets_nothing st.memory) ≡ st
 unfolding after_setting
 quiet_stand true st e = refl
@@ -26,6 +27,7 @@ module _ (r : RunData) (layout : Layout) where
     pub next : halves_before r d (suc due.place) ≡ halves_before r d due.place + length (act_halves r.plan d due.entry (due.entry).act)
     pub within : i < length (act_halves r.plan d due.entry (due.entry).act)
 
+  -- a half that is due stands at its place of the script
   pub due-at : (d n : ℕ) (due : Due) → due_after r d n ≡ Some due → At d n due
   unfolding halves_of
   due-at d n due h =
@@ -41,6 +43,7 @@ module _ (r : RunData) (layout : Layout) where
         within = slice_get_within _ s.i due.half s.half;
       }
 
+  -- a half at a place is due after those before it
   pub at-due : (d k i : ℕ) (e : Entry) (h : Half) → slice_get (script r) k ≡ Some e → slice_get (act_halves r.plan d e e.act) i ≡ Some h → due_after r d (halves_before r d k + i) ≡ Some (due_here k e h)
   unfolding halves_of
   at-due d k i e h p q = half-at r.plan d (script r) 0 k i e h p q ∙ ap (λ (m : ℕ). Some (due_here m e h)) (omega arith)
@@ -53,6 +56,7 @@ module _ (r : RunData) (layout : Layout) where
         | Some x ↦ λ e. omega (arith, halves_in-more r.plan d (script r) k x e)
       ]) refl
 
+  -- counts rise from place to place
   pub halves_before-rises : (d k j : ℕ) → k ≤ j → halves_before r d k ≤ halves_before r d j
   halves_before-rises d k zero h = let e : k ≡ 0 = omega arith in rw e (omega arith)
   halves_before-rises d k (suc j) h =
@@ -80,6 +84,7 @@ module _ (r : RunData) (layout : Layout) where
   quiet-effect f e d p takes q = absurd (cc (q))
   quiet-effect f e d p (posts levels) q = quiet_stand (f d p).is_stopped (f d p) refl
 
+  -- with no halves at a place a patch stays
   still_at : (k d p : ℕ) (e : Entry) (hs : List Half) → length hs ≡ 0 → half_effect r layout (front r layout k) e d p (last_half hs) ≡ front r layout k d p
   still_at k d p e [] h = quiet-effect (front r layout k) e d p (posts []) refl
   still_at k d p e (x ∷ hs) h = absurd (omega arith)
@@ -93,6 +98,7 @@ module _ (r : RunData) (layout : Layout) where
         | Some x ↦ λ e. still_at k d p x (act_halves r.plan d x x.act) (omega (arith, halves_in-more r.plan d (script r) k x e))
       ]) refl
 
+  -- where a domain has no halves between two places, its patches stand alike there
   pub front-same : (d p k j : ℕ) → k ≤ j → halves_before r d j ≡ halves_before r d k → front r layout j d p ≡ front r layout k d p
   front-same d p k zero h e = let w : k ≡ 0 = omega arith in rw w refl
   front-same d p k (suc j) h e =

@@ -1,5 +1,5 @@
 -- A patch by its numbers, and as a member of the lists of domains and patches.
-use Rattle.std.proofs.Common.{◌≡◌, ◌⊎◌, inl, inr, ℕ, zero, suc, ◌+◌, ◌*◌, ◌<◌, ◌≤◌, ◌==◌, ◌||◌, true, false, List, [], ◌∷◌, length, Some, arith}
+use Rattle.std.proofs.Common.{◌≡◌, inl, inr, ℕ, zero, suc, ◌+◌, ◌*◌, ◌<◌, ◌≤◌, ◌==◌, true, length, Some, arith}
 use Rattle.std.specs.Prelude.{slice_get}
 use Rattle.std.specs.List.{list_any, range_with_len}
 use Rattle.std.proofs.lemmas.Bool.{eq-eqb, eqb-true}
@@ -8,9 +8,11 @@ use Rattle.wf_model.specs.declared.script.Entry.{Entry}
 use Rattle.wf_model.specs.Outcome.{RunData, script}
 use Rattle.wf_model.specs.Patches.{split_of, patches_of}
 use Rattle.wf_model.specs.Exchange.{is_expected}
-use Rattle.wf_core_laws.specs.Patches.{IsPatch, IsMessage}
+use Rattle.wf_laws.proofs.Bools.{or_left, or_right}
+use Rattle.wf_model.specs.Agreement.{IsPatch}
+use Rattle.wf_core_laws.specs.Patches.{IsDomainPatch, IsMessage}
 use Rattle.wf_core_laws.proofs.Places.{lt_or_le}
-use Rattle.wf_core_laws.proofs.Members.{Has, or_left, or_right, or_parts}
+use Rattle.wf_core_laws.proofs.Members.{Has, or_parts}
 use Rattle.wf_core_laws.proofs.Progress.{There}
 
 -- a number of a range is one of its list
@@ -32,13 +34,15 @@ range-has a (suc n) k h =
     ]
 
 module _ (r : RunData) (layout : Layout) (d p : ℕ) where
-  pub there_of : IsPatch r.plan layout d p → There r layout d p
+  -- a patch by its numbers is one of the lists
+  pub there_of : IsDomainPatch r.plan layout d p → There r layout d p
   there_of is = record {
     domain = has-range 1 (length (r.plan).domains) d ((is.domain).0) (omega (arith, (is.domain).1));
     patch = has-range 0 (layout.nproc_x * layout.nproc_y) p (omega arith) (omega (arith, is.patch));
   }
 
-  pub patch_of : There r layout d p → IsPatch r.plan layout d p
+  -- and one of the lists has its numbers
+  pub patch_of : There r layout d p → IsDomainPatch r.plan layout d p
   patch_of at =
       let dom = range-has 1 (length (r.plan).domains) d at.domain in
       let pat = range-has 0 (layout.nproc_x * layout.nproc_y) p at.patch in
@@ -51,3 +55,7 @@ message_of r layout k e q p entry cells from to =
     let f = range-has 0 (layout.nproc_x * layout.nproc_y) q from in
     let t = range-has 0 (layout.nproc_x * layout.nproc_y) p to in
     record { entry = entry; cells = cells; from = omega (arith, f.1); to = omega (arith, t.1) }
+
+-- a patch of the layout is one of the list of patches
+pub patch_has : (layout : Layout) (p : ℕ) → IsPatch layout p → Has (patches_of (split_of layout)) p
+patch_has layout p h = has-range 0 (layout.nproc_x * layout.nproc_y) p (omega arith) (omega (arith, h))

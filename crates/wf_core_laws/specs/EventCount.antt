@@ -1,5 +1,5 @@
 -- How many events a run can have.
-use Rattle.std.specs.Prelude.{ℕ, ◌+◌, List, length, sum_by}
+use Rattle.std.specs.Prelude.{ℕ, ◌+◌, length, sum_by}
 use Rattle.wf_model.specs.declared.layout.Layout.{Layout}
 use Rattle.wf_model.specs.Plans.{domains_of}
 use Rattle.wf_model.specs.Outcome.{RunData}

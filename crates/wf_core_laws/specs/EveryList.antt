@@ -1,18 +1,20 @@
 -- What holds of every list of enabled events, whatever their order.
-use Rattle.std.specs.Prelude.{◌≡◌, ℕ, ◌≤◌, List, length, map, flat_map, take, All, Some, Err}
+use Rattle.std.specs.Prelude.{◌≡◌, ℕ, ◌≤◌, true, List, length, map, flat_map, take, All, Some}
 use Rattle.wf_model.specs.declared.layout.Layout.{Layout}
 use Rattle.wf_model.specs.declared.event.Event.{Event}
 use Rattle.wf_model.specs.Plans.{domains_of}
-use Rattle.wf_model.specs.Outcome.{RunData, Overflow, outcome_of}
+use Rattle.wf_model.specs.Outcome.{RunData, outcome_of}
 use Rattle.wf_model.specs.Frames.{frames_of, frames_written}
 use Rattle.wf_model.specs.Patches.{split_of, patches_of}
-use Rattle.wf_model.specs.Core.{CoreState}
+use Rattle.wf_model.specs.Core.{CoreState, due_of}
 use Rattle.wf_model.specs.Replay.{replay, replay_from, IsEnabled, IsReachable, IsEnd, IsFull}
 use Rattle.wf_model.specs.Lockstep.{memory_line, memory_report}
-use Rattle.wf_core_laws.specs.Patches.{IsPatch, IsCanonical}
-use Rattle.wf_core_laws.specs.Carried.{IsLockstepLetter, IsLockstepPiece}
+use Rattle.wf_model.specs.Agreement.{IsAccepted, IsUpToOverflow}
+use Rattle.wf_core_laws.specs.Patches.{IsDomainPatch, IsCanonical}
+use Rattle.wf_core_laws.specs.Carried.{IsLockstepLetter, IsLockstepPiece, HasMessageNumbers, HasFrameNumbers}
 use Rattle.wf_core_laws.specs.Ends.{WritesTheFirst, IsFinished, FollowsLockstep, AreAlike}
-use Rattle.wf_core_laws.specs.Stops.{IsFirstStop, IsStoppedAt}
+use Rattle.wf_model.specs.Halves.{Due}
+use Rattle.wf_core_laws.specs.LeastStop.{least_stop, first_overflow}
 use Rattle.wf_core_laws.specs.EventCount.{most_events}
 
 -- the plan has a domain
@@ -26,7 +28,7 @@ EveryReachableStateIsCanonical = (r : RunData) (layout : Layout) (s : CoreState)
 -- in it each patch has the memory and the stop of the lockstep run after as many of its own halves
 abbrev pub PatchesFollowTheLockstepRun : Type 0
 PatchesFollowTheLockstepRun =
-    (r : RunData) (layout : Layout) (s : CoreState) (d p : ℕ) → HasDomain r → IsReachable r layout s → IsPatch r.plan layout d p → FollowsLockstep r layout s d p
+    (r : RunData) (layout : Layout) (s : CoreState) (d p : ℕ) → HasDomain r → IsReachable r layout s → IsDomainPatch r.plan layout d p → FollowsLockstep r layout s d p
 
 -- all letters in the mail carry the lockstep run's numbers
 abbrev pub LettersCarryTheLockstepRunsNumbers : Type 0
@@ -38,6 +40,17 @@ abbrev pub PiecesCarryTheLockstepRunsNumbers : Type 0
 PiecesCarryTheLockstepRunsNumbers =
     (r : RunData) (layout : Layout) (s : CoreState) → HasDomain r → IsReachable r layout s →
     All (IsLockstepPiece r layout) s.pieces × All (IsLockstepPiece r layout) s.gathered
+
+-- on a plan that the halo check accepts, letters carry the numbers of their messages: the grids' up to the first overflow
+abbrev pub LettersCarryTheirNumbers : Type 0
+LettersCarryTheirNumbers =
+    (r : RunData) (layout : Layout) (s : CoreState) → IsAccepted r layout → IsReachable r layout s → All (HasMessageNumbers r layout) s.mail
+
+-- and pieces those of their frames
+abbrev pub PiecesCarryTheirNumbers : Type 0
+PiecesCarryTheirNumbers =
+    (r : RunData) (layout : Layout) (s : CoreState) → IsAccepted r layout → IsReachable r layout s →
+    All (HasFrameNumbers r layout) s.pieces × All (HasFrameNumbers r layout) s.gathered
 
 -- a state with no event enabled is an end
 abbrev pub NoStateIsStuck : Type 0
@@ -67,3 +80,27 @@ FullListsEndWithTheReport =
 -- a list of enabled events is no longer than the most events that there can be
 abbrev pub ListsAreBounded : Type 0
 ListsAreBounded = (r : RunData) (layout : Layout) (es : List Event) (s : CoreState) → replay r layout es ≡ Some s → length es ≤ most_events r layout
+
+-- ---- on a plan that the halo check accepts
+
+-- the frames written are the first of those that the run writes: none stands at the first overflow or past it
+abbrev pub FramesWrittenAreTheRuns : Type 0
+FramesWrittenAreTheRuns =
+    (r : RunData) (layout : Layout) (s : CoreState) → IsAccepted r layout → IsReachable r layout s →
+    (take s.written (frames_of r) ≡ take s.written (frames_written r)) × (s.written ≤ length (frames_written r))
+
+-- a full list writes all frames of the run
+abbrev pub FullListsWriteTheRunsFrames : Type 0
+FullListsWriteTheRunsFrames =
+    (r : RunData) (layout : Layout) (es : List Event) → IsAccepted r layout → (f : IsFull r layout es) → take (f.0).written (frames_of r) ≡ frames_written r
+
+-- no patch stops before the place of the first overflow, and where nothing overflows none stops
+abbrev pub NoPatchStopsBeforeTheOverflow : Type 0
+NoPatchStopsBeforeTheOverflow =
+    (r : RunData) (layout : Layout) (s : CoreState) (n d p : ℕ) (due : Due) → IsAccepted r layout → IsReachable r layout s → IsUpToOverflow r n → IsDomainPatch r.plan layout d p →
+    (s.patches d p).is_stopped ≡ true → due_of r layout s d p ≡ Some due → n ≤ due.place
+
+-- and the least stop of a full list, by place, level, k, j and i, is the first overflow; there is none where nothing overflows
+abbrev pub LeastStopIsTheFirstOverflow : Type 0
+LeastStopIsTheFirstOverflow =
+    (r : RunData) (layout : Layout) (es : List Event) → IsAccepted r layout → (f : IsFull r layout es) → least_stop r layout f.0 ≡ first_overflow (outcome_of r)

@@ -1,24 +1,24 @@
 -- The lockstep run and the front.
-use Rattle.std.specs.Prelude.{◌≡◌, ℕ, ◌≤◌, List, length, map, flat_map, fold, pos, ◌+ℤ◌}
+use Rattle.std.specs.Prelude.{◌≡◌, ℕ, ◌≤◌, length, map, flat_map, fold, pos, ◌+ℤ◌}
 use Rattle.wf_model.specs.declared.layout.Layout.{Layout}
 use Rattle.wf_model.specs.Plans.{domains_of}
 use Rattle.wf_model.specs.Outcome.{RunData, script}
 use Rattle.wf_model.specs.Patches.{split_of, patches_of}
 use Rattle.wf_model.specs.Front.{front}
 use Rattle.wf_model.specs.Lockstep.{MemoryLine, lockstep_at, place_after, memory_after, memory_report, cells_of_patch}
-use Rattle.wf_core_laws.specs.Patches.{IsPatch}
+use Rattle.wf_core_laws.specs.Patches.{IsDomainPatch}
 
 -- before each place of the lockstep run each patch has the memory of the front, and is stopped where the front stops it
 abbrev pub LockstepRunIsTheFront : Type 0
 LockstepRunIsTheFront =
-    (r : RunData) (layout : Layout) → 1 ≤ length r.plan.domains → (n d p : ℕ) → IsPatch r.plan layout d p →
+    (r : RunData) (layout : Layout) → 1 ≤ length r.plan.domains → (n d p : ℕ) → IsDomainPatch r.plan layout d p →
     (((lockstep_at r layout n).patches d p).memory ≡ (front r layout n d p).memory)
     × (((lockstep_at r layout n).patches d p).is_stopped ≡ (front r layout n d p).is_stopped)
 
 -- so a patch's memory after n of its halves is the front's before its next place
 abbrev pub MemoryAfterHalvesIsTheFronts : Type 0
 MemoryAfterHalvesIsTheFronts =
-    (r : RunData) (layout : Layout) → 1 ≤ length r.plan.domains → (d p n : ℕ) → IsPatch r.plan layout d p →
+    (r : RunData) (layout : Layout) → 1 ≤ length r.plan.domains → (d p n : ℕ) → IsDomainPatch r.plan layout d p →
     memory_after r layout d p n ≡ (front r layout (place_after r layout d n) d p).memory
 
 -- the line of a patch in the report, by the front at the script's end

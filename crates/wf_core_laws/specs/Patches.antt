@@ -1,5 +1,5 @@
 -- The patches and messages of a run, and what is told of a state by how far each patch has come.
-use Rattle.std.specs.Prelude.{◌≡◌, ℕ, suc, ◌*◌, ◌<◌, ◌≤◌, ◌&&◌, nat_lt, Bool, true, false, length, Option, Some, None, slice_get, if◌then◌else◌, IsTrue}
+use Rattle.std.specs.Prelude.{◌≡◌, ℕ, suc, ◌≤◌, ◌&&◌, nat_lt, Bool, true, false, length, Some, None, slice_get, if◌then◌else◌, IsTrue}
 use Rattle.wf_model.specs.declared.plan.Plan.{Plan}
 use Rattle.wf_model.specs.declared.layout.Layout.{Layout}
 use Rattle.wf_model.specs.declared.script.Entry.{Entry}
@@ -11,18 +11,19 @@ use Rattle.wf_model.specs.Core.{CoreState, due_of, letter_of}
 use Rattle.wf_model.specs.Front.{front, halves_before, letter_at}
 use Rattle.wf_model.specs.Lockstep.{place_after}
 use Rattle.wf_model.specs.Sound.{IsDomain}
+use Rattle.wf_model.specs.Agreement.{IsPatch}
 
 -- a patch of the layout, in a domain of the plan
-pub record IsPatch (plan : Plan) (layout : Layout) (d p : ℕ) : Type 0 where
+pub record IsDomainPatch (plan : Plan) (layout : Layout) (d p : ℕ) : Type 0 where
   pub domain : IsDomain plan d
-  pub patch : p < layout.nproc_x * layout.nproc_y
+  pub patch : IsPatch layout p
 
 -- a message of the entry at a place, from a patch q to a patch p: it has cells to carry
 pub record IsMessage (r : RunData) (layout : Layout) (k : ℕ) (e : Entry) (q p : ℕ) : Type 0 where
   pub entry : slice_get (script r) k ≡ Some e
   pub cells : IsTrue (is_expected r.plan (split_of layout) e q p)
-  pub from : q < layout.nproc_x * layout.nproc_y
-  pub to : p < layout.nproc_x * layout.nproc_y
+  pub from : IsPatch layout q
+  pub to : IsPatch layout p
 
 -- its sender has sent it, and its receiver has not taken it
 abbrev pub is_on_its_way : RunData → CoreState → ℕ → Entry → ℕ → ℕ → Bool

@@ -1,5 +1,6 @@
 //! What holds of every state that a list of enabled events leads to.
-ghost use Rattle.wf_core_laws.specs.EveryList.{EveryReachableStateIsCanonical, PatchesFollowTheLockstepRun, LettersCarryTheLockstepRunsNumbers, PiecesCarryTheLockstepRunsNumbers, FramesWrittenAreTheFirst};
+ghost use Rattle.wf_core_laws.specs.PieceCount.{EachPieceIsThereOnce};
+ghost use Rattle.wf_core_laws.specs.EveryList.{EveryReachableStateIsCanonical, PatchesFollowTheLockstepRun, LettersCarryTheLockstepRunsNumbers, PiecesCarryTheLockstepRunsNumbers, LettersCarryTheirNumbers, PiecesCarryTheirNumbers, FramesWrittenAreTheFirst, FramesWrittenAreTheRuns};
 
 /// How many halves each patch has done and which patches are stopped tells all memories and all mail of a state.
 pub fn every_reachable_state_is_canonical()
@@ -21,7 +22,27 @@ pub fn pieces_carry_the_lockstep_runs_numbers()
     ensures { PiecesCarryTheLockstepRunsNumbers }
 {}
 
+/// On a plan that the halo check accepts each letter carries its message's numbers: up to the first overflow those of the grids.
+pub fn letters_carry_their_numbers()
+    ensures { LettersCarryTheirNumbers }
+{}
+
+/// On a plan that the halo check accepts each piece carries the numbers of its variable in its frame: up to the first overflow those of the grids.
+pub fn pieces_carry_their_numbers()
+    ensures { PiecesCarryTheirNumbers }
+{}
+
+/// Of each frame, variable and patch there is one piece, posted or gathered, once the patch has come past the frame's emit, and none before.
+pub fn each_piece_is_there_once()
+    ensures { EachPieceIsThereOnce }
+{}
+
 /// The frames written are the first of the script's, and none stands at a stop or past one.
 pub fn frames_written_are_the_first()
     ensures { FramesWrittenAreTheFirst }
+{}
+
+/// On a plan that the halo check accepts the frames written are the first of those that the run writes: none stands at the first overflow or past it.
+pub fn frames_written_are_the_runs()
+    ensures { FramesWrittenAreTheRuns }
 {}

@@ -1,0 +1,28 @@
+//! Where patches stop: on a plan that the halo check accepts, at the run's first overflow.
+ghost use Rattle.wf_core_laws.specs.Stops.{FirstStopIsAtTheFirstOverflow, FrontGoesOnWhereNothingOverflows, PatchesStopWhereTheyNameAPoint};
+ghost use Rattle.wf_core_laws.specs.EveryList.{NoPatchStopsBeforeTheOverflow, LeastStopIsTheFirstOverflow};
+
+/// The first place at which the front stops a patch is that of the run's first overflow.
+pub fn first_stop_is_at_the_first_overflow()
+    ensures { FirstStopIsAtTheFirstOverflow }
+{}
+
+/// Where nothing overflows the front stops no patch.
+pub fn front_goes_on_where_nothing_overflows()
+    ensures { FrontGoesOnWhereNothingOverflows }
+{}
+
+/// Up to the first overflow a patch stops at a place exactly where it names a point there, and only one of the domain that computes or receives there does.
+pub fn patches_stop_where_they_name_a_point()
+    ensures { PatchesStopWhereTheyNameAPoint }
+{}
+
+/// In no state that a list of enabled events leads to has a patch stopped before the place of the first overflow, nor where nothing overflows.
+pub fn no_patch_stops_before_the_overflow()
+    ensures { NoPatchStopsBeforeTheOverflow }
+{}
+
+/// The least stop at the end of a full list, by place, level, k, j and i, is the run's first overflow, and there is none exactly where nothing overflows.
+pub fn least_stop_is_the_first_overflow()
+    ensures { LeastStopIsTheFirstOverflow }
+{}
