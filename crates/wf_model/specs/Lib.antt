@@ -65,3 +65,4 @@ pub mod FilesRead
 pub mod DemoCase
 pub mod GenCase
 pub mod Demo
+pub mod ListLends
