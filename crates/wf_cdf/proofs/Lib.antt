@@ -1,0 +1,5 @@
+pub mod CappedSums
+pub mod Sizes
+pub mod Lengths
+pub mod Placed
+pub mod Limits
