@@ -1,5 +1,5 @@
 -- How many bytes a header's parts have.
-use Rattle.std.proofs.Common.{◌≡◌, ℕ, ◌+◌, ◌*◌, ◌-◌, ◌%◌, ◌^◌, ◌<◌, ◌≤◌, min, Bool, true, false, cond, eqb, List, [], ◌∷◌, ◌++◌, length, take, get_or, arith, refl, sym, ap, ◌∙◌, length-append}
+use Rattle.std.proofs.Common.{◌≡◌, ℕ, ◌+◌, ◌*◌, ◌-◌, ◌^◌, ◌<◌, min, true, false, cond, eqb, List, [], ◌∷◌, length, take, get_or, arith, refl, sym, ap, ◌∙◌, length-append}
 use Rattle.std.specs.List.{flat_map}
 use Rattle.std.proofs.lemmas.List.Concat.{length-flat_map}
 use Rattle.std.proofs.lemmas.List.Sums.{fold_more}
@@ -29,9 +29,9 @@ pub capped_items_more : {A : Type 0} (each : A → List ℕ) (xs : List A) (i to
 capped_items_more each xs i total n x h read exact before =
     ap (λ a. min (a + n) (2 ^ 128 - 1)) before ∙ capped_add_right (8 + length (flat_map each (take i xs))) n
     ∙ ap capped
-        (let more : length (flat_map each (take (i + 1) xs)) ≡ length (flat_map each (take i xs)) + length (each (get_or xs i x)) = length_items_more each xs i x h in
-         let same : length (each x) ≡ length (each (get_or xs i x)) = ap (λ y. length (each y)) read in
-         omega arith)
+    (let more : length (flat_map each (take (i + 1) xs)) ≡ length (flat_map each (take i xs)) + length (each (get_or xs i x)) = length_items_more each xs i x h in
+    let same : length (each x) ≡ length (each (get_or xs i x)) = ap (λ y. length (each y)) read in
+    omega arith)
 
 -- and with one whose length is capped
 pub capped_items_more_capped : {A : Type 0} (each : A → List ℕ) (xs : List A) (i total n : ℕ) (x : A) → i < length xs →
@@ -42,9 +42,9 @@ capped_items_more_capped each xs i total n x h read exact before =
     ∙ ap (λ a. min (capped (8 + length (flat_map each (take i xs))) + a) (2 ^ 128 - 1)) exact
     ∙ capped_add (8 + length (flat_map each (take i xs))) (length (each x))
     ∙ ap capped
-        (let more : length (flat_map each (take (i + 1) xs)) ≡ length (flat_map each (take i xs)) + length (each (get_or xs i x)) = length_items_more each xs i x h in
-         let same : length (each x) ≡ length (each (get_or xs i x)) = ap (λ y. length (each y)) read in
-         omega arith)
+    (let more : length (flat_map each (take (i + 1) xs)) ≡ length (flat_map each (take i xs)) + length (each (get_or xs i x)) = length_items_more each xs i x h in
+    let same : length (each x) ≡ length (each (get_or xs i x)) = ap (λ y. length (each y)) read in
+    omega arith)
 
 -- numbers of four bytes
 length_words : (ns : List ℕ) → length (flat_map four_bytes ns) ≡ 4 * length ns

@@ -1,5 +1,5 @@
 -- What holds of the sizes of a file that is not too long.
-use Rattle.std.proofs.Common.{◌≡◌, ℕ, zero, suc, ◌+◌, ◌-◌, ◌*◌, ◌^◌, ◌<◌, ◌≤◌, min, max, Bool, true, false, cond, eqb, List, [], ◌∷◌, ◌++◌, length, take, drop, arith, refl, sym, ap, ◌∙◌, subst}
+use Rattle.std.proofs.Common.{◌≡◌, ℕ, zero, suc, ◌+◌, ◌*◌, ◌^◌, ◌<◌, ◌≤◌, max, true, false, cond, eqb, List, ◌++◌, length, take, drop, arith, ap, ◌∙◌}
 use Rattle.std.proofs.lemmas.List.{drop_all, append-nil, take_all}
 use Rattle.wf_model.specs.declared.header.Header.{Header}
 use Rattle.wf_model.specs.Bytes.{header_bytes}
@@ -49,8 +49,8 @@ fixed_within h records = omega arith
 pub BeginsFit_within_limit : (h : Header) (records : ℕ) → file_size h records ≤ most_bytes h.version → BeginsFit (placed h)
 BeginsFit_within_limit h records small =
     BeginsFit_placed h (λ e.
-      let limit : most_bytes h.version ≡ 2147483644 = ap most_bytes e in
-      omega (arith, one_record_le h records))
+    let limit : most_bytes h.version ≡ 2147483644 = ap most_bytes e in
+    omega (arith, one_record_le h records))
 
 -- what a loan of all items leaves, of the same length
 pub with_items_all : {A : Type 0} (xs ys : List A) → length ys ≡ length xs → take (length xs) (ys ++ drop (length ys) xs) ≡ ys

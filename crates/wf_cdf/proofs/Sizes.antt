@@ -1,5 +1,5 @@
 -- The sizes of variables, one more at a time.
-use Rattle.std.proofs.Common.{◌≡◌, ◌⊎◌, ℕ, suc, zero, ◌+◌, ◌-◌, ◌*◌, ◌/◌, ◌%◌, ◌^◌, ◌<◌, ◌≤◌, min, max, Bool, true, false, cond, not, ltb, eqb, List, [], ◌∷◌, ◌++◌, length, take, drop, get_or, map, arith, refl, sym, ap, ◌∙◌}
+use Rattle.std.proofs.Common.{◌≡◌, ℕ, suc, zero, ◌+◌, ◌-◌, ◌*◌, ◌^◌, ◌<◌, ◌≤◌, min, max, Bool, true, false, cond, ltb, eqb, List, [], ◌∷◌, ◌++◌, length, take, drop, get_or, arith, refl, sym, ap, ◌∙◌}
 use Rattle.std.specs.List.{fold, filter, sum_by, All}
 use Rattle.std.proofs.lemmas.List.{get_or_default, take-append-drop}
 use Rattle.std.proofs.lemmas.Bool.{ne_eqb}
@@ -51,8 +51,7 @@ sum_of_passing_more p f xs i d h =
     ap (sum_by f) (filter_more p xs i d h)
     ∙ sum_by-append f (filter p (take i xs)) (cond (p (get_or xs i d)) (get_or xs i d ∷ []) [])
     ∙ ap (λ n. sum_by f (filter p (take i xs)) + n)
-        (elim (p (get_or xs i d)) as (λ b. sum_by f (cond b (get_or xs i d ∷ []) []) ≡ cond b (f (get_or xs i d)) 0) [ true ↦ omega arith | false ↦ refl ])
-
+    (elim (p (get_or xs i d)) as (λ b. sum_by f (cond b (get_or xs i d ∷ []) []) ≡ cond b (f (get_or xs i d)) 0) [ true ↦ omega arith | false ↦ refl ])
 
 -- the same where it fails the test
 pub sum_of_passing_kept : {X : Type 0} (p : X → Bool) (f : X → ℕ) (xs : List X) (i : ℕ) (x : X) → i < length xs → x ≡ get_or xs i x →
@@ -75,7 +74,7 @@ pub sum_of_passing_take : {X : Type 0} (p : X → Bool) (f : X → ℕ) (xs : Li
     sum_by f (filter p (take i xs)) ≤ sum_by f (filter p xs)
 sum_of_passing_take p f xs i =
     let parts : sum_by f (filter p (take i xs ++ drop i xs)) ≡ sum_by f (filter p (take i xs)) + sum_by f (filter p (drop i xs)) =
-      ap (sum_by f) (filter-append p (take i xs) (drop i xs)) ∙ sum_by-append f (filter p (take i xs)) (filter p (drop i xs)) in
+    ap (sum_by f) (filter-append p (take i xs) (drop i xs)) ∙ sum_by-append f (filter p (take i xs)) (filter p (drop i xs)) in
     let whole : sum_by f (filter p (take i xs ++ drop i xs)) ≡ sum_by f (filter p xs) = ap (λ ys. sum_by f (filter p ys)) (take-append-drop i xs) in
     omega arith
 

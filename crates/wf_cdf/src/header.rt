@@ -8,7 +8,9 @@ use std::alloc::{AllocError, Global};
 use wf_model::{Att, Dim, Header, Var};
 
 const DIMENSIONS: u32 = 10;
+
 const VARIABLES: u32 = 11;
+
 const ATTRIBUTES: u32 = 12;
 
 fn put_word(out: &mut Vec<u8>, word: u32) -> Result<(), AllocError>
@@ -144,6 +146,11 @@ pub fn write_header(alloc: Global, header: &Header) -> Result<Vec<u8>, AllocErro
     put_word(&mut out, header.numrecs)?;
     put_dims(&mut out, header.dims.as_slice())?;
     put_atts(&mut out, header.atts.as_slice())?;
-    put_vars(&mut out, header.version, header.dims.as_slice(), header.vars.as_slice())?;
+    put_vars(
+        &mut out,
+        header.version,
+        header.dims.as_slice(),
+        header.vars.as_slice(),
+    )?;
     Ok(out)
 }

@@ -72,7 +72,9 @@ fn var_length(version: u8, var: &Var) -> u128
 {
     let shape = 4 + 4 * var.dims.as_slice().len() as u128;
     let ends = 8 + begin_length(version);
-    (name_length(var.name.as_slice()) + shape + ends).saturating_add(atts_length(var.atts.as_slice()))
+    (name_length(var.name.as_slice()) + shape + ends).saturating_add(atts_length(
+        var.atts.as_slice(),
+    ))
 }
 
 #[tactic(auto, using(crate::proofs::CappedSums::capped_small, crate::proofs::Lengths::length_list_bytes, crate::proofs::Lengths::capped_items_more_capped))]
@@ -94,5 +96,7 @@ pub(crate) fn header_length(header: &Header) -> u128
     let dims = dims_length(header.dims.as_slice());
     let atts = atts_length(header.atts.as_slice());
     let vars = vars_length(header.version, header.vars.as_slice());
-    dims.saturating_add(atts).saturating_add(vars).saturating_add(8)
+    dims.saturating_add(atts)
+        .saturating_add(vars)
+        .saturating_add(8)
 }

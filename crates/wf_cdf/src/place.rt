@@ -13,14 +13,22 @@ use wf_model::{Dim, Header, Var};
 fn most_bytes(version: u8) -> u128
     ensures { result ≡ most_bytes version }
 {
-    if version == 1 { 2_147_483_644 } else { 1_099_511_627_776 }
+    if version == 1 {
+        2_147_483_644
+    } else {
+        1_099_511_627_776
+    }
 }
 
 /// How a size is told in 32 bits: above 4,294,967,292 by the greatest number.
 fn vsize_of(size: u64) -> u32
     ensures { result ≡ vsize_of size }
 {
-    if size > 4_294_967_292 { u32::MAX } else { size as u32 }
+    if size > 4_294_967_292 {
+        u32::MAX
+    } else {
+        size as u32
+    }
 }
 
 /// Sets a variable's vsize and begin.
@@ -68,7 +76,12 @@ fn place_all(header: &mut Header, fixed: u64, moving: u64)
     requires end { moving + sum_by (padded_size header.old.dims) (record_vars header.old) < 2 ^ 63 }
     ensures { header.new ≡ placed header.old }
 {
-    place_each(header.dims.as_slice(), header.vars.as_mut_slice(), fixed, moving);
+    place_each(
+        header.dims.as_slice(),
+        header.vars.as_mut_slice(),
+        fixed,
+        moving,
+    );
 }
 
 /// Sets vsize and begin of each variable of a header, and gives the header's length in bytes: data begins there.

@@ -52,7 +52,11 @@ fn product(dims: &[Dim], numbers: &[u32]) -> u128
 pub(crate) fn all_but_first(numbers: &[u32]) -> &[u32]
     ensures { result.now ≡ rest_of numbers.now }
 {
-    if numbers.is_empty() { numbers } else { &numbers[1..] }
+    if numbers.is_empty() {
+        numbers
+    } else {
+        &numbers[1..]
+    }
 }
 
 /// The dimensions of a variable but for the record dimension.
@@ -62,7 +66,11 @@ fn slab_dims<'a>(dims: &[Dim], var: &'a Var) -> &'a [u32]
     ensures within { All (λ n. n < length dims.now) result.now }
 {
     let numbers = var.dims.as_slice();
-    if begins_with_record(dims, numbers) { &numbers[1..] } else { numbers }
+    if begins_with_record(dims, numbers) {
+        all_but_first(numbers)
+    } else {
+        numbers
+    }
 }
 
 /// The bytes of a variable, or of one record of a record variable.
@@ -122,7 +130,12 @@ fn data_sizes(dims: &[Dim], vars: &[Var]) -> DataSizes
             fixed = fixed.saturating_add(size);
         }
     }
-    DataSizes { fixed, record_vars, padded, unpadded }
+    DataSizes {
+        fixed,
+        record_vars,
+        padded,
+        unpadded,
+    }
 }
 
 /// The bytes of one record. A lone record variable has no padding: the format leaves it out for a byte, char or short,
@@ -130,7 +143,11 @@ fn data_sizes(dims: &[Dim], vars: &[Var]) -> DataSizes
 fn record_size(sizes: &DataSizes) -> u128
     ensures { result ≡ (if sizes.now.record_vars == 1 then sizes.now.unpadded else sizes.now.padded) }
 {
-    if sizes.record_vars == 1 { sizes.unpadded } else { sizes.padded }
+    if sizes.record_vars == 1 {
+        sizes.unpadded
+    } else {
+        sizes.padded
+    }
 }
 
 /// The bytes of a file's header, of its fixed variables and of one record.
@@ -165,5 +182,8 @@ pub(crate) fn file_size(header: &Header, sizes: &FileSizes, records: u32) -> u12
     ensures { result ≡ capped (file_size header.now records) }
 {
     let records = u128::from(records.max(1)).saturating_mul(sizes.one_record);
-    sizes.header.saturating_add(sizes.fixed).saturating_add(records)
+    sizes
+        .header
+        .saturating_add(sizes.fixed)
+        .saturating_add(records)
 }

@@ -24,7 +24,9 @@ fn is_sound_att(att: &Att) -> bool
         return false;
     }
     let bytes = u64::from(att.count) * u64::from(type_size(att.kind));
-    is_count(att.name.as_slice().len()) && is_count(att.count as usize) && att.bytes.as_slice().len() as u64 == bytes
+    is_count(att.name.as_slice().len())
+        && is_count(att.count as usize)
+        && att.bytes.as_slice().len() as u64 == bytes
 }
 
 fn are_sound_atts(atts: &[Att]) -> bool
@@ -120,7 +122,11 @@ pub fn is_sound(header: &Header) -> bool
     let vars = header.vars.as_slice();
     let head = (header.version == 1 || header.version == 2) && header.numrecs < u32::MAX;
     let counts = is_count(dims.len()) && is_count(atts.len()) && is_count(vars.len());
-    head && counts && are_sound_dims(dims) && has_one_record(dims) && are_sound_atts(atts) && are_sound_vars(dims, vars)
+    head && counts
+        && are_sound_dims(dims)
+        && has_one_record(dims)
+        && are_sound_atts(atts)
+        && are_sound_vars(dims, vars)
 }
 
 fn are_narrow(vars: &[Var]) -> bool

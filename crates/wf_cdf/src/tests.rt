@@ -4,9 +4,13 @@ use std::test::Fail;
 use wf_model::{Att, Bytes, Dim, Header, List, Var};
 
 const BYTE: u8 = 1;
+
 const CHAR: u8 = 2;
+
 const SHORT: u8 = 3;
+
 const INT: u8 = 4;
+
 const DOUBLE: u8 = 6;
 
 /// The first 380 bytes of a history file that WRF's netCDF form gives for the demo: 3 by 3 points and two records.
@@ -82,7 +86,7 @@ fn level_atts(alloc: Global) -> Result<List<Att>, AllocError> {
         att(alloc, b"MemoryOrder", CHAR, 3, b"XY ")?,
         att(alloc, b"description", CHAR, 0, b"")?,
         att(alloc, b"units", CHAR, 0, b"")?,
-        att(alloc, b"stagger", CHAR, 0, b"")?
+        att(alloc, b"stagger", CHAR, 0, b"")?,
     ]?))
 }
 
@@ -93,18 +97,28 @@ fn history(alloc: Global, version: u8) -> Result<Header, AllocError> {
     let mut file = header(
         alloc,
         version,
-        vec![in alloc; dim(alloc, b"Time", 0)?, dim(alloc, b"DateStrLen", 19)?, dim(alloc, b"west_east", 3)?, dim(alloc, b"south_north", 3)?]?,
+        vec![in alloc;
+            dim(alloc, b"Time", 0)?,
+            dim(alloc, b"DateStrLen", 19)?,
+            dim(alloc, b"west_east", 3)?,
+            dim(alloc, b"south_north", 3)?,
+        ]?,
         vec![in alloc; var(alloc, b"Times", &[0, 1], CHAR)?, level]?,
     );
     file.atts = List::from_vec(vec![in alloc;
         att(alloc, b"START_DATE", CHAR, 19, b"2000-01-01_00:00:00")?,
-        att(alloc, b"GRID_ID", INT, 1, &[0, 0, 0, 1])?
+        att(alloc, b"GRID_ID", INT, 1, &[0, 0, 0, 1])?,
     ]?);
     Ok(file)
 }
 
 fn places(alloc: Global, header: &Header) -> Result<Vec<(u32, u64)>, AllocError> {
-    header.vars.as_slice().iter().map(|var| (var.vsize, var.begin)).collect(alloc)
+    header
+        .vars
+        .as_slice()
+        .iter()
+        .map(|var| (var.vsize, var.begin))
+        .collect(alloc)
 }
 
 #[test]
@@ -113,7 +127,10 @@ fn demo_header(rt: HostRuntime) -> Result<(), Fail> {
     let mut file = history(alloc, 1)?;
     assert!(rt; is_sound(&file));
     assert_eq!(rt; place_vars(&mut file, 2), Ok(380));
-    assert_eq!(rt; places(alloc, &file)?.as_slice(), [(20, 380), (36, 400)].as_slice());
+    assert_eq!(rt;
+        places(alloc, &file)?.as_slice(),
+        [(20, 380), (36, 400)].as_slice()
+    );
     file.numrecs = 2;
     assert!(rt; is_sound(&file) && begins_fit(&file));
     assert_eq!(rt; write_header(alloc, &file)?.as_slice(), DEMO);
@@ -124,7 +141,10 @@ fn demo_header(rt: HostRuntime) -> Result<(), Fail> {
 fn demo_record(rt: HostRuntime) -> Result<(), Fail> {
     let alloc = rt.alloc();
     let slab = write_slab(alloc, &[0, 37, 74, -1, i32::MIN])?;
-    assert_eq!(rt; slab.as_slice(), b"\0\0\0\0\0\0\0%\0\0\0J\xff\xff\xff\xff\x80\0\0\0".as_slice());
+    assert_eq!(rt;
+        slab.as_slice(),
+        b"\0\0\0\0\0\0\0%\0\0\0J\xff\xff\xff\xff\x80\0\0\0".as_slice()
+    );
     let time = write_chars(alloc, b"2000-01-01_00:00:00", true)?;
     assert_eq!(rt; time.as_slice(), b"2000-01-01_00:00:00\0".as_slice());
     let lone = write_chars(alloc, b"2000-01-01_00:00:00", false)?;
@@ -139,12 +159,18 @@ fn version_two_widths(rt: HostRuntime) -> Result<(), Fail> {
     let mut file = history(alloc, 2)?;
     assert!(rt; is_sound(&file));
     assert_eq!(rt; place_vars(&mut file, 2), Ok(388));
-    assert_eq!(rt; places(alloc, &file)?.as_slice(), [(20, 388), (36, 408)].as_slice());
+    assert_eq!(rt;
+        places(alloc, &file)?.as_slice(),
+        [(20, 388), (36, 408)].as_slice()
+    );
     assert!(rt; is_sound(&file) && begins_fit(&file));
     let written = write_header(alloc, &file)?;
     assert_eq!(rt; written.len(), 388);
     assert_eq!(rt; written[3], 2);
-    assert_eq!(rt; &written[372..], b"\0\0\0\x04\0\0\0\x24\0\0\0\0\0\0\x01\x98".as_slice());
+    assert_eq!(rt;
+        &written[372..],
+        b"\0\0\0\x04\0\0\0\x24\0\0\0\0\0\0\x01\x98".as_slice()
+    );
     Ok(())
 }
 
@@ -157,19 +183,27 @@ fn fixed_and_record_vars(rt: HostRuntime) -> Result<(), Fail> {
         var(alloc, b"a", &[0, 1], INT)?,
         var(alloc, b"b", &[1], SHORT)?,
         var(alloc, b"c", &[0], BYTE)?,
-        var(alloc, b"d", &[], DOUBLE)?
+        var(alloc, b"d", &[], DOUBLE)?,
     ]?;
     let mut file = header(alloc, 1, dims, vars);
     assert!(rt; is_sound(&file));
     assert_eq!(rt; place_vars(&mut file, 3), Ok(200));
-    assert_eq!(rt; places(alloc, &file)?.as_slice(), [(12, 216), (8, 200), (4, 228), (8, 208)].as_slice());
+    assert_eq!(rt;
+        places(alloc, &file)?.as_slice(),
+        [(12, 216), (8, 200), (4, 228), (8, 208)].as_slice()
+    );
     Ok(())
 }
 
 /// A file with one fixed variable of so many ints: 80 bytes before its data in version 1, and 84 in version 2.
 fn ints(alloc: Global, version: u8, count: u32) -> Result<Header, AllocError> {
     let dims = vec![in alloc; dim(alloc, b"x", count)?]?;
-    Ok(header(alloc, version, dims, vec![in alloc; var(alloc, b"v", &[0], INT)?]?))
+    Ok(header(
+        alloc,
+        version,
+        dims,
+        vec![in alloc; var(alloc, b"v", &[0], INT)?]?,
+    ))
 }
 
 #[test]
@@ -178,10 +212,18 @@ fn longest_file(rt: HostRuntime) -> Result<(), Fail> {
     let mut longest = ints(alloc, 1, 536_870_891)?;
     assert!(rt; is_sound(&longest));
     assert_eq!(rt; place_vars(&mut longest, 0), Ok(80));
-    assert_eq!(rt; places(alloc, &longest)?.as_slice(), [(2_147_483_564, 80)].as_slice());
+    assert_eq!(rt;
+        places(alloc, &longest)?.as_slice(),
+        [(2_147_483_564, 80)].as_slice()
+    );
     let mut longer = ints(alloc, 1, 536_870_892)?;
     assert!(rt; is_sound(&longer));
-    assert_eq!(rt; place_vars(&mut longer, 0), Err(TooLong { bytes: 2_147_483_648 }));
+    assert_eq!(rt;
+        place_vars(&mut longer, 0),
+        Err(TooLong {
+            bytes: 2_147_483_648
+        })
+    );
     assert_eq!(rt; places(alloc, &longer)?.as_slice(), [(0, 0)].as_slice());
     Ok(())
 }
@@ -191,9 +233,19 @@ fn longest_file(rt: HostRuntime) -> Result<(), Fail> {
 fn unpadded_records(rt: HostRuntime) -> Result<(), Fail> {
     let alloc = rt.alloc();
     let dims = vec![in alloc; dim(alloc, b"Time", 0)?]?;
-    let mut file = header(alloc, 1, dims, vec![in alloc; var(alloc, b"v", &[0], BYTE)?]?);
+    let mut file = header(
+        alloc,
+        1,
+        dims,
+        vec![in alloc; var(alloc, b"v", &[0], BYTE)?]?,
+    );
     assert!(rt; is_sound(&file));
-    assert_eq!(rt; place_vars(&mut file, 2_147_483_565), Err(TooLong { bytes: 2_147_483_645 }));
+    assert_eq!(rt;
+        place_vars(&mut file, 2_147_483_565),
+        Err(TooLong {
+            bytes: 2_147_483_645
+        })
+    );
     assert!(rt; is_sound(&file));
     assert_eq!(rt; place_vars(&mut file, 2_147_483_564), Ok(80));
     assert_eq!(rt; places(alloc, &file)?.as_slice(), [(4, 80)].as_slice());
@@ -203,7 +255,10 @@ fn unpadded_records(rt: HostRuntime) -> Result<(), Fail> {
 #[test]
 fn greatest_vsize(rt: HostRuntime) -> Result<(), Fail> {
     let alloc = rt.alloc();
-    for (count, vsize) in [(1_073_741_823, 4_294_967_292), (1_073_741_824, 4_294_967_295)] {
+    for (count, vsize) in [
+        (1_073_741_823, 4_294_967_292),
+        (1_073_741_824, 4_294_967_295),
+    ] {
         let mut file = ints(alloc, 2, count)?;
         assert!(rt; is_sound(&file));
         assert_eq!(rt; place_vars(&mut file, 0), Ok(84));
@@ -217,7 +272,12 @@ fn greatest_vsize(rt: HostRuntime) -> Result<(), Fail> {
 fn length_past_all_numbers(rt: HostRuntime) -> Result<(), Fail> {
     let alloc = rt.alloc();
     let dims = vec![in alloc; dim(alloc, b"x", 2_147_483_647)?]?;
-    let mut file = header(alloc, 2, dims, vec![in alloc; var(alloc, b"v", &[0, 0, 0, 0, 0], INT)?]?);
+    let mut file = header(
+        alloc,
+        2,
+        dims,
+        vec![in alloc; var(alloc, b"v", &[0, 0, 0, 0, 0], INT)?]?,
+    );
     assert!(rt; is_sound(&file));
     let placed = place_vars(&mut file, 1);
     assert_eq!(rt; placed, Err(TooLong { bytes: u128::MAX }));

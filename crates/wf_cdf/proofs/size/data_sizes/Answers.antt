@@ -1,4 +1,4 @@
-use Rattle.std.proofs.Common.{◌≡◌, ◌+◌, not, true, false, length, ap, sym, ◌∙◌, arith}
+use Rattle.std.proofs.Common.{◌≡◌, not, true, false, ap, ◌∙◌, arith}
 use Rattle.wf_model.specs.Sizes.{is_record_var, padded_size, slab_size}
 use Rattle.wf_cdf.proofs.Sizes.{sum_kept, sum_added, count_more}
 use Rattle.wf_cdf.proofs.size.data_sizes.Goals as goal
@@ -14,38 +14,42 @@ loop-var-preserved c =
     let before = c.loop-var.invariant in
     record {
       fixed = elim c.if-begins_with_record.branch [
-        then-begins_with_record w ↦
+        | then-begins_with_record w ↦
             let moves : is_record_var c.args.dims.now c.var-item.result ≡ true = cc in
             w.fixed-is ∙ sum_kept (λ x. not (is_record_var dims x)) (padded_size dims) vars i c.loop-var.fixed v there c.var-item.is (ap not moves) before.fixed
         | else-begins_with_record w ↦
             let stands : is_record_var c.args.dims.now c.var-item.result ≡ false = cc in
             w.fixed-is ∙ w.saturating_add-fixed.ensures
             ∙ sum_added (λ x. not (is_record_var dims x)) (padded_size dims) vars i c.loop-var.fixed c.padded_size-size.result v there c.var-item.is
-                (ap not stands) c.padded_size-size.ensures before.fixed ];
+            (ap not stands) c.padded_size-size.ensures before.fixed
+      ];
       count = elim c.if-begins_with_record.branch [
-        then-begins_with_record w ↦
+        | then-begins_with_record w ↦
             let moves : is_record_var c.args.dims.now c.var-item.result ≡ true = cc in
             omega (arith, count_more (is_record_var dims) vars i v true there c.var-item.is moves)
         | else-begins_with_record w ↦
             let stands : is_record_var c.args.dims.now c.var-item.result ≡ false = cc in
-            omega (arith, count_more (is_record_var dims) vars i v false there c.var-item.is stands) ];
+            omega (arith, count_more (is_record_var dims) vars i v false there c.var-item.is stands)
+      ];
       few = elim c.if-begins_with_record.branch [ then-begins_with_record w ↦ omega arith | else-begins_with_record w ↦ omega arith ];
       padded = elim c.if-begins_with_record.branch [
-        then-begins_with_record w ↦
+        | then-begins_with_record w ↦
             let moves : is_record_var c.args.dims.now c.var-item.result ≡ true = cc in
             w.padded-is ∙ w.saturating_add-padded.ensures
             ∙ sum_added (is_record_var dims) (padded_size dims) vars i c.loop-var.padded c.padded_size-size.result v there c.var-item.is moves
-                c.padded_size-size.ensures before.padded
+            c.padded_size-size.ensures before.padded
         | else-begins_with_record w ↦
             let stands : is_record_var c.args.dims.now c.var-item.result ≡ false = cc in
-            w.padded-is ∙ sum_kept (is_record_var dims) (padded_size dims) vars i c.loop-var.padded v there c.var-item.is stands before.padded ];
+            w.padded-is ∙ sum_kept (is_record_var dims) (padded_size dims) vars i c.loop-var.padded v there c.var-item.is stands before.padded
+      ];
       unpadded = elim c.if-begins_with_record.branch [
-        then-begins_with_record w ↦
+        | then-begins_with_record w ↦
             let moves : is_record_var c.args.dims.now c.var-item.result ≡ true = cc in
             w.unpadded-is ∙ w.saturating_add-unpadded.ensures
             ∙ sum_added (is_record_var dims) (slab_size dims) vars i c.loop-var.unpadded w.slab_size.result v there c.var-item.is moves w.slab_size.ensures
-                before.unpadded
+            before.unpadded
         | else-begins_with_record w ↦
             let stands : is_record_var c.args.dims.now c.var-item.result ≡ false = cc in
-            w.unpadded-is ∙ sum_kept (is_record_var dims) (slab_size dims) vars i c.loop-var.unpadded v there c.var-item.is stands before.unpadded ];
+            w.unpadded-is ∙ sum_kept (is_record_var dims) (slab_size dims) vars i c.loop-var.unpadded v there c.var-item.is stands before.unpadded
+      ];
     }

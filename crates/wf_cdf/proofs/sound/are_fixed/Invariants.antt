@@ -1,4 +1,4 @@
-use Rattle.std.proofs.Common.{◌≡◌, ℕ, ◌<◌, get_or, IsTrue, not}
+use Rattle.std.proofs.Common.{ℕ, ◌<◌, get_or, IsTrue, not}
 use Rattle.wf_model.specs.Sizes.{is_record_dim, dim_of}
 use Rattle.wf_cdf.proofs.sound.are_fixed.Given as goal
 
