@@ -1,6 +1,6 @@
 -- The laws of messages: each cell comes once, from its owner, with its numbers.
 use Rattle.std.proofs.Common.{◌≡◌, ℕ, ◌*◌, ◌<◌, true, List, [], ◌∷◌, inl, inr, ⊎_elim, refl, sym, ap, subst, ◌∙◌, arith, length}
-use Rattle.std.specs.Prelude.{pos, ◌==◌, map, if◌then◌else◌}
+use Rattle.std.specs.Prelude.{pos, ◌==◌, map, if◌then◌else◌, zip}
 use Rattle.wf_model.specs.declared.layout.Layout.{Layout}
 use Rattle.wf_model.specs.declared.plan.Plan.{Plan}
 use Rattle.wf_model.specs.declared.script.Act.{Act}
@@ -8,17 +8,17 @@ use Rattle.wf_model.specs.declared.script.Act.TheVariants.{Start, Force, Feedbac
 use Rattle.wf_model.specs.declared.script.Entry.{Entry}
 use Rattle.wf_model.specs.Plans.{item_of, point_x, point_y}
 use Rattle.wf_model.specs.Outcome.{RunData, script, entry_at, grids_at, outcome_of}
-use Rattle.wf_model.specs.Patches.{Split, Cell, split_of, is_in_domain}
+use Rattle.wf_model.specs.Patches.{Split, Cell, split_of, is_in_domain, patches_of}
 use Rattle.wf_model.specs.Shapes.{cell_owner, fetched_cells, grid_cell}
-use Rattle.wf_model.specs.Exchange.{sender_of, carried}
+use Rattle.wf_model.specs.Exchange.{sender_of, carried, is_expected, senders_to}
 use Rattle.wf_model.specs.Core.{memory_point}
 use Rattle.wf_model.specs.Held.{stands_past, grids_in_patches, numbers_at, message_numbers}
 use Rattle.wf_model.specs.Sound.{IsDomain, IsLevel}
 use Rattle.wf_model.specs.Agreement.{IsAccepted, IsUpToOverflow, IsPatch, IsLevelCell, memory_at}
-use Rattle.wf_laws.specs.Messages.{Carries, FetchedCellsComeOnce, MessagesCarryFetchedCells, asked_points, AskedPointsComeOnce, SendersSendTheNumbers, MessagesCarryTheGridsNumbers}
+use Rattle.wf_laws.specs.Messages.{Carries, FetchedCellsComeOnce, MessagesCarryFetchedCells, asked_points, AskedPointsComeOnce, ReceivedAreTheMessages, SendersSendTheNumbers, MessagesCarryTheGridsNumbers}
 use Rattle.wf_laws.specs.Ownership.{IsTheOne}
 use Rattle.wf_laws.proofs.Bools.{equal_of, equal_test, split_bool}
-use Rattle.wf_laws.proofs.Members.{In, In-filter, In-filter_out, In-Contains, Contains-In}
+use Rattle.wf_laws.proofs.Members.{In, In-filter, In-filter_out, In-Contains, Contains-In, In-range_out, flat_map-same}
 use Rattle.wf_laws.proofs.Places.{IsRoom, room_of, back_x, back_y, place-domain}
 use Rattle.wf_laws.proofs.Cells.{IsPointCell, fetched_point}
 use Rattle.wf_laws.proofs.Senders.{IsSent, owner_is, owner_there, among_owner, carried_sent}
@@ -158,3 +158,11 @@ senders_send r layout n from to a within hq =
 pub carry_grids : MessagesCarryTheGridsNumbers
 carry_grids r layout n from to a within up hq =
     ⊎_elim (λ is. grids_sent r layout a n within from to hq up is) (λ none. map_none _ _ _ none) (sender_domain r layout a.sound a.laid a.covered n within from to)
+
+-- what comes to a patch are the messages to it
+pub received_messages : ReceivedAreTheMessages
+received_messages r layout n to a within =
+    flat_map-same _ _ (senders_to r.plan (split_of layout) (entry_at r n) to)
+    (λ q i. let t = In-filter_out (λ (x : ℕ). is_expected r.plan (split_of layout) (entry_at r n) x to) q (patches_of (split_of layout)) i in
+    let b = In-range_out q 0 (layout.nproc_x * layout.nproc_y) t.0 in
+    ap (zip (carried r.plan (split_of layout) (entry_at r n) (entry_at r n).act q to)) (senders_send r layout n q to a within (omega (arith, b.1))))

@@ -1,5 +1,5 @@
 -- The messages of halos, periods and nest items: which cells they carry, and which numbers.
-use Rattle.std.specs.Prelude.{◌≡◌, ℕ, ◌*◌, ◌<◌, List, [], ℤ, length, map, flat_map, IsTrue}
+use Rattle.std.specs.Prelude.{◌≡◌, ℕ, ◌*◌, ◌<◌, List, [], ℤ, length, map, flat_map, zip, IsTrue}
 use Rattle.std.specs.List.{Contains}
 use Rattle.wf_model.specs.declared.layout.Layout.{Layout}
 use Rattle.wf_model.specs.declared.plan.Plan.{Plan}
@@ -10,12 +10,13 @@ use Rattle.wf_model.specs.Plans.{item_of}
 use Rattle.wf_model.specs.Outcome.{RunData, script, entry_at, grids_at}
 use Rattle.wf_model.specs.Patches.{Split, Cell, split_of, is_in_domain}
 use Rattle.wf_model.specs.Shapes.{cell_owner, fetched_cells, grid_cell}
-use Rattle.wf_model.specs.Exchange.{sender_of, around, cells_behind, start_cells, force_cells, feedback_cells, carried}
+use Rattle.wf_model.specs.Exchange.{sender_of, around, cells_behind, start_cells, force_cells, feedback_cells, carried, senders_to}
 use Rattle.wf_model.specs.Core.{memory_point}
 use Rattle.wf_model.specs.Held.{message_numbers}
 use Rattle.wf_model.specs.Sound.{IsDomain, IsLevel, IsSoundLayout}
 use Rattle.wf_model.specs.Agreement.{IsAccepted, IsUpToOverflow, IsPatch, IsLevelCell, memory_at}
 use Rattle.wf_laws.specs.Ownership.{IsTheOne}
+use Rattle.wf_laws.specs.Stops.{received_at}
 
 -- the message from a patch to another carries the cell
 abbrev pub Carries : Plan → Split → Entry → ℕ → Cell → ℕ → Type 0
@@ -65,3 +66,10 @@ MessagesCarryTheGridsNumbers =
     (r : RunData) (layout : Layout) (n from to : ℕ) → IsAccepted r layout → n < length (script r) → IsUpToOverflow r n → IsPatch layout from →
     sent_numbers r layout n from to
     ≡ map (grid_cell r.plan (sender_of r.plan (entry_at r n) (entry_at r n).act) (grids_at r n)) (carried r.plan (split_of layout) (entry_at r n) (entry_at r n).act from to)
+
+-- so all that comes to a patch at a place are the cells of each message to it, with the message's numbers
+abbrev pub ReceivedAreTheMessages : Type 0
+ReceivedAreTheMessages =
+    (r : RunData) (layout : Layout) (n to : ℕ) → IsAccepted r layout → n < length (script r) →
+    received_at r layout n to
+    ≡ flat_map (λ q. zip (carried r.plan (split_of layout) (entry_at r n) (entry_at r n).act q to) (message_numbers r layout n q to)) (senders_to r.plan (split_of layout) (entry_at r n) to)

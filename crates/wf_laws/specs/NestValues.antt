@@ -6,15 +6,10 @@ use Rattle.wf_model.specs.Plans.{domain_of, field_of, point_x, point_y}
 use Rattle.wf_model.specs.Nests.{between_points, behind}
 use Rattle.wf_model.specs.Outcome.{RunData, script, entry_at, grids_at}
 use Rattle.wf_model.specs.Patches.{Cell, split_of}
-use Rattle.wf_model.specs.Exchange.{sender_of, is_outer_cell, is_fed_cell, cells_behind}
-use Rattle.wf_model.specs.PatchEffect.{Mail, came, between_cells}
-use Rattle.wf_model.specs.Agreement.{IsAccepted, IsUpToOverflow, IsPatch, IsOwnCell, IsMemoryCell, memory_at}
-use Rattle.wf_laws.specs.Stops.{mail_from}
-
--- all that comes to a patch at a place, from the senders' memories before it
-abbrev pub received_at : RunData → Layout → ℕ → ℕ → Mail
-received_at r layout n p =
-    mail_from r.plan (split_of layout) (entry_at r n) (entry_at r n).act (memory_at r layout n (sender_of r.plan (entry_at r n) (entry_at r n).act)) p
+use Rattle.wf_model.specs.Exchange.{is_outer_cell, is_fed_cell, cells_behind}
+use Rattle.wf_model.specs.PatchEffect.{came, between_cells}
+use Rattle.wf_model.specs.Agreement.{IsAccepted, IsUpToOverflow, IsPatch, IsOwnCell, IsMemoryCell}
+use Rattle.wf_laws.specs.Stops.{received_at}
 
 -- the nest of a nest item, and its parent
 abbrev pub nest_at : RunData → ℕ → ℕ

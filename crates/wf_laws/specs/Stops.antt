@@ -24,6 +24,11 @@ mail_from plan split e act ms to =
     flat_map (λ q. zip (carried plan split e act q to) (map (memory_point plan (sender_of plan e act) (ms q)) (carried plan split e act q to)))
     (senders_to plan split e to)
 
+-- all that comes to a patch at a place, from the senders' memories before it
+abbrev pub received_at : RunData → Layout → ℕ → ℕ → Mail
+received_at r layout n p =
+    mail_from r.plan (split_of layout) (entry_at r n) (entry_at r n).act (memory_at r layout n (sender_of r.plan (entry_at r n) (entry_at r n).act)) p
+
 -- the least point that overflows in what a patch computes at an entry
 abbrev pub overflow_computed : RunData → Split → Entry → Memories → ℕ → Option Spot
 overflow_computed r split e ms p = least_failure r.plan split e.domain p (computing r split e e.act p (ms e.domain p))

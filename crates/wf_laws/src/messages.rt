@@ -1,6 +1,6 @@
 //! The messages of halos, periods and nest items.
 
-ghost use Rattle.wf_laws.specs.Messages.{FetchedCellsComeOnce, MessagesCarryFetchedCells, AskedPointsComeOnce, SendersSendTheNumbers, MessagesCarryTheGridsNumbers};
+ghost use Rattle.wf_laws.specs.Messages.{FetchedCellsComeOnce, MessagesCarryFetchedCells, AskedPointsComeOnce, SendersSendTheNumbers, MessagesCarryTheGridsNumbers, ReceivedAreTheMessages};
 
 /// Each cell that a halo or a period fetches for a patch is carried by one message to it: that of the owner of its point.
 pub fn fetched_cells_come_once()
@@ -25,4 +25,9 @@ pub fn senders_send_the_numbers()
 /// Up to the first overflow a message carries the grids' numbers of the points that its cells stand for.
 pub fn messages_carry_the_grids_numbers()
     ensures { MessagesCarryTheGridsNumbers }
+{}
+
+/// All that comes to a patch at a place are the cells of each message to it, with the message's numbers.
+pub fn received_are_the_messages()
+    ensures { ReceivedAreTheMessages }
 {}
