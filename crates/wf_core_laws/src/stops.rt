@@ -1,5 +1,6 @@
 //! Where patches stop: on a plan that the halo check accepts, at the run's first overflow.
 ghost use Rattle.wf_core_laws.specs.Stops.{FirstStopIsAtTheFirstOverflow, FrontGoesOnWhereNothingOverflows, PatchesStopWhereTheyNameAPoint};
+ghost use Rattle.wf_core_laws.specs.LeastStop.{StoppedPatchesNameTheFrontsPoints, StoppedPatchesComputeOrReceive};
 ghost use Rattle.wf_core_laws.specs.EveryList.{NoPatchStopsBeforeTheOverflow, LeastStopIsTheFirstOverflow};
 
 /// The first place at which the front stops a patch is that of the run's first overflow.
@@ -15,6 +16,16 @@ pub fn front_goes_on_where_nothing_overflows()
 /// Up to the first overflow a patch stops at a place exactly where it names a point there, and only one of the domain that computes or receives there does.
 pub fn patches_stop_where_they_name_a_point()
     ensures { PatchesStopWhereTheyNameAPoint }
+{}
+
+/// A patch that is stopped names the point at which its half overflows in the front, so it names the same in each later state; one that lacks a message names none.
+pub fn stopped_patches_name_the_fronts_points()
+    ensures { StoppedPatchesNameTheFrontsPoints }
+{}
+
+/// A patch that is stopped is of the domain that computes or receives at its place.
+pub fn stopped_patches_compute_or_receive()
+    ensures { StoppedPatchesComputeOrReceive }
 {}
 
 /// In no state that a list of enabled events leads to has a patch stopped before the place of the first overflow, nor where nothing overflows.
