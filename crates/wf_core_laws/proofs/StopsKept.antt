@@ -78,6 +78,7 @@ module _ (r : RunData) (layout : Layout) where
   no_own s test a b d p on st same_d same_p =
       not_both _ st (subst (λ (y : ℕ). (s.patches d y).is_stopped ≡ false) same_p (subst (λ (y : ℕ). (s.patches y b).is_stopped ≡ false) same_d (may_live r layout test s a b on)))
 
+  -- so each event that is enabled is of no concern to it
   others : (s : CoreState) (x : Event) (d p : ℕ) → is_enabled r layout s x ≡ true → (s.patches d p).is_stopped ≡ true → Other d p x
   unfolding is_enabled
   others s (Step a b) d p on st = no_own s (may_step r layout) a b d p on st
@@ -106,6 +107,7 @@ module _ (r : RunData) (layout : Layout) where
         | inr lost ↦ absurd (not_both _ (lacks_some r layout s d p k e ok is there lost) full)
       ]
 
+  -- who was stopped keeps its mail
   complete_on : (s : CoreState) (x : Event) (d p k : ℕ) (e : Entry) → Sane r layout s → Complete s → is_enabled r layout s x ≡ true → (s.patches d p).is_stopped ≡ true
       → due_of r layout (state_after_event r layout s x) d p ≡ Some (due_here k e takes) → Has (patches_of (split_of layout)) p → lacks_mail r layout (front r layout k) e p ≡ false → has_mail r layout (state_after_event r layout s x) (due_here k e takes) p ≡ true
   complete_on s x d p k e ok old on st is there full =
@@ -114,6 +116,7 @@ module _ (r : RunData) (layout : Layout) where
       let was : due_of r layout s d p ≡ Some (due_here k e takes) = ap (λ (y : PatchAt). due_after r d y.done) (sym f.same) ∙ is in
       still_sent r layout s t d p ok (kept r layout s x ok on) f k e was there (old.has d p k e st was there full)
 
+  -- and who stops now has it
   complete_stop : (s : CoreState) (a b d p k : ℕ) (e : Entry) → Sane r layout s → patch_may r layout (may_stop r layout) s a b ≡ true → (s.patches d p).is_stopped ≡ false → ((after_stop s a b).patches d p).is_stopped ≡ true
       → due_of r layout (after_stop s a b) d p ≡ Some (due_here k e takes) → Has (patches_of (split_of layout)) p → lacks_mail r layout (front r layout k) e p ≡ false → has_mail r layout s (due_here k e takes) p ≡ true
   complete_stop s a b d p k e ok on live st is there full =
@@ -129,6 +132,7 @@ module _ (r : RunData) (layout : Layout) where
         ]
       ]
 
+  -- each event keeps it
   complete_kept : (s : CoreState) (x : Event) → Sane r layout s → Complete s → is_enabled r layout s x ≡ true → Complete (state_after_event r layout s x)
   unfolding is_enabled state_after_event
   complete_kept s (Step a b) ok old on = record { has = λ d p k e st is there full. elim (split_bool (s.patches d p).is_stopped) [ inl was ↦ complete_on s (Step a b) d p k e ok old on was is there full | inr live ↦ absurd (not_both _ st (live_go s (may_step r layout) a b d p on live)) ] }
@@ -137,11 +141,13 @@ module _ (r : RunData) (layout : Layout) where
   complete_kept s (Gather group server frame f q) ok old on = record { has = old.has }
   complete_kept s (Write n) ok old on = record { has = old.has }
 
+  -- at the begin nobody is stopped
   complete_begin : Complete (begin_state r layout)
   unfolding begin_state
   complete_begin = record { has = λ d p k e st is there full. absurd (cc (st)) }
 
-  complete : (es : List Event) (s : CoreState) → replay r layout es ≡ Some s → Complete s
+  -- it holds of each state that a run can reach
+  pub complete : (es : List Event) (s : CoreState) → replay r layout es ≡ Some s → Complete s
   complete es s h = (reached r layout (λ (t : CoreState). Sane r layout t × Complete t) (λ t e both on. (kept r layout t e both.0 on, complete_kept t e both.0 both.1 on)) (sane_begin r layout, complete_begin) es s h).1
 
   -- where mail lacks in the front it is not all there
@@ -159,7 +165,8 @@ module _ (r : RunData) (layout : Layout) where
         | inl all ↦ absurd (not_both _ (all-at (λ q. is_some (letter_of s k q p)) (senders_to r.plan (split_of layout) e p) g.q all g.is) none)
       ]
 
-  names_front : (s : CoreState) (d p k : ℕ) (e : Entry) (h : Half) → Sane r layout s → Complete s → Has (patches_of (split_of layout)) p → (s.patches d p).is_stopped ≡ true → due_of r layout s d p ≡ Some (due_here k e h) →
+  -- so it names what the front says
+  pub names_front : (s : CoreState) (d p k : ℕ) (e : Entry) (h : Half) → Sane r layout s → Complete s → Has (patches_of (split_of layout)) p → (s.patches d p).is_stopped ≡ true → due_of r layout s d p ≡ Some (due_here k e h) →
       half_names r layout s d p (due_here k e h) h ≡ front_names r layout (front r layout k) e d p (front r layout k d p).memory h
   names_front s d p k e acts ok held there st is = ap (λ (m : Memory). least_failure r.plan (split_of layout) d p (computing r (split_of layout) e e.act p m)) (memory_here r layout s d p (due_here k e acts) ok is)
   names_front s d p k e sends ok held there st is = refl
@@ -173,6 +180,7 @@ module _ (r : RunData) (layout : Layout) where
       ]
   names_front s d p k e (posts levels) ok held there st is = refl
 
+-- the law on the points that stops name
 pub stopped_patches_name_the_fronts_points : StoppedPatchesNameTheFrontsPoints
 stopped_patches_name_the_fronts_points r layout s d p due h at st is =
     ap (λ b. if b then due_names r layout s due.place d p (due_of r layout s d p) else None) st
@@ -180,6 +188,7 @@ stopped_patches_name_the_fronts_points r layout s d p due h at st is =
     ∙ ap (λ b. if b then half_names r layout s d p due due.half else None) (eq-eqb due.place due.place refl)
     ∙ names_front r layout s d p due.place due.entry due.half (sane r layout h.0 s h.1) (complete r layout h.0 s h.1) (there_of r layout d p at).patch st is
 
+-- the law on the domain of a stop
 pub stopped_patches_compute_or_receive : StoppedPatchesComputeOrReceive
 unfolding entry_at
 stopped_patches_compute_or_receive r layout s d p due h st is =
