@@ -1,19 +1,19 @@
 -- What holds of every list of enabled events, whatever their order.
-use Rattle.std.specs.Prelude.{◌≡◌, ℕ, ◌≤◌, true, List, length, map, flat_map, take, All, Some}
+use Rattle.std.specs.Prelude.{◌≡◌, ℕ, ◌≤◌, true, IsTrue, List, length, map, flat_map, take, All, Some}
 use Rattle.wf_model.specs.declared.layout.Layout.{Layout}
 use Rattle.wf_model.specs.declared.event.Event.{Event}
 use Rattle.wf_model.specs.Plans.{domains_of}
 use Rattle.wf_model.specs.Outcome.{RunData, outcome_of}
 use Rattle.wf_model.specs.Frames.{frames_of, frames_written}
 use Rattle.wf_model.specs.Patches.{split_of, patches_of}
-use Rattle.wf_model.specs.Core.{CoreState, due_of}
+use Rattle.wf_model.specs.Core.{CoreState, due_of, is_lost}
 use Rattle.wf_model.specs.Replay.{replay, replay_from, IsEnabled, IsReachable, IsEnd, IsFull}
 use Rattle.wf_model.specs.Lockstep.{memory_line, memory_report}
 use Rattle.wf_model.specs.Agreement.{IsAccepted, IsUpToOverflow}
 use Rattle.wf_core_laws.specs.Patches.{IsDomainPatch, IsCanonical}
-use Rattle.wf_core_laws.specs.Carried.{IsLockstepLetter, IsLockstepPiece, HasMessageNumbers, HasFrameNumbers}
+use Rattle.wf_core_laws.specs.Carried.{IsLockstepLetter, IsLockstepPiece, HasMessageNumbers, HasFrameNumbers, IsLostMessage}
 use Rattle.wf_core_laws.specs.Ends.{WritesTheFirst, IsFinished, FollowsLockstep, AreAlike}
-use Rattle.wf_model.specs.Halves.{Due}
+use Rattle.wf_model.specs.Halves.{takes, Due}
 use Rattle.wf_core_laws.specs.LeastStop.{least_stop, first_overflow}
 use Rattle.wf_core_laws.specs.EventCount.{most_events}
 
@@ -51,6 +51,12 @@ abbrev pub PiecesCarryTheirNumbers : Type 0
 PiecesCarryTheirNumbers =
     (r : RunData) (layout : Layout) (s : CoreState) → IsAccepted r layout → IsReachable r layout s →
     All (HasFrameNumbers r layout) s.pieces × All (HasFrameNumbers r layout) s.gathered
+
+-- where a patch may stop for want of a message, there is a message to it whose sender the lockstep run stops before that place
+abbrev pub LostMessagesAreOfStoppedPatches : Type 0
+LostMessagesAreOfStoppedPatches =
+    (r : RunData) (layout : Layout) (s : CoreState) (d p : ℕ) (due : Due) → HasDomain r → IsReachable r layout s → IsDomainPatch r.plan layout d p → due_of r layout s d p ≡ Some due → due.half ≡ takes →
+    IsTrue (is_lost r layout s due p) → IsLostMessage r layout s due p
 
 -- a state with no event enabled is an end
 abbrev pub NoStateIsStuck : Type 0
