@@ -89,6 +89,7 @@ module _ (r : RunData) (layout : Layout) where
         stopped = (lockstep_front r layout k (sender_of r.plan e e.act) l.q closed from).1 ∙ l.stopped;
       }
 
+  -- the same, of a half that receives
   pub lost_message : (s : CoreState) (d p k : ℕ) (e : Entry) (h : Half) → Sane r layout s → Closed r → There r layout d p → due_of r layout s d p ≡ Some (due_here k e h) → h ≡ takes → is_lost r layout s (due_here k e h) p ≡ true → IsLostMessage r layout s (due_here k e h) p
   lost_message s d p k e h ok closed at is w lost =
       subst (λ (y : Half). IsLostMessage r layout s (due_here k e y) p) (sym w)

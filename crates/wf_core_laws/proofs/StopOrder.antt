@@ -28,7 +28,7 @@ use Rattle.wf_core_laws.specs.Patches.{IsDomainPatch}
 use Rattle.wf_core_laws.specs.Ends.{IsFinished}
 use Rattle.wf_core_laws.specs.Stops.{IsFirstStop, IsStoppedAt}
 use Rattle.wf_core_laws.specs.LeastStop.{front_names, first_overflow, half_names, due_names, stop_names, least_stop_at, stop_at, least_stop}
-use Rattle.wf_core_laws.specs.EveryList.{NoPatchStopsBeforeTheOverflow, LeastStopIsTheFirstOverflow}
+use Rattle.wf_core_laws.specs.EveryList.{NoPatchStopsWhereNothingOverflows, FullListsStopAtTheOverflow, NoPatchStopsBeforeTheOverflow, LeastStopIsTheFirstOverflow}
 use Rattle.wf_core_laws.proofs.Options.{mapped_some}
 use Rattle.wf_core_laws.proofs.Members.{Has, not_both, any-none}
 use Rattle.wf_core_laws.proofs.HalvesAt.{LastOrQuiet, last-or-quiet}
@@ -216,3 +216,14 @@ least_stop_is_the_first_overflow r layout es ok f = least_by r layout ok es f (o
 -- the law on stops before the overflow
 pub no_patch_stops_before_the_overflow : NoPatchStopsBeforeTheOverflow
 no_patch_stops_before_the_overflow r layout s n d p due ok h up at st is = stop_late r layout s n d p due (sane r layout h.0 s h.1) (going r layout ok n d p up at) st is
+
+-- the law on runs without an overflow
+pub no_patch_stops_where_nothing_overflows : NoPatchStopsWhereNothingOverflows
+no_patch_stops_where_nothing_overflows r layout s g d p ok h out at = none_stopped r layout s d p (sane r layout h.0 s h.1) (no_stop_at_all r layout ok g out) at
+
+-- the law on the stop of a full list
+pub full_lists_stop_at_the_overflow : FullListsStopAtTheOverflow
+full_lists_stop_at_the_overflow r layout es o ok f out =
+    let first : IsFirstStop r layout o.place = first_stop r layout ok o out in
+    let end : IsFinished r layout f.0 = end_of_run r layout es f.0 (closed r (ok.sound).some) f.1 (quiet r layout f.0 f.2) in
+    (first.d, first.p, first.at, stopped_there r layout f.0 o.place (sane r layout es f.0 f.1) end first)
