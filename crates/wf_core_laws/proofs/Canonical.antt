@@ -1,27 +1,31 @@
 -- A state that a run can reach is in canonical form.
-use Rattle.std.proofs.Common.{◌≡◌, ℕ, ◌&&◌, true, false, List, All, Option, Some, None, length, refl, ap, subst, arith, ◌*◌, ◌==◌}
+use Rattle.std.proofs.Common.{◌≡◌, ℕ, ◌&&◌, true, false, List, All, Option, Some, None, length, refl, ap, subst, arith, ◌*◌, ◌==◌, sym, ◌∙◌}
 use Rattle.std.proofs.lemmas.Bool.{eqb-true}
 use Rattle.wf_model.specs.declared.layout.Layout.{Layout}
 use Rattle.wf_model.specs.declared.script.Entry.{Entry}
 use Rattle.wf_model.specs.declared.event.Event.{Event}
 use Rattle.wf_model.specs.Outcome.{RunData, script}
-use Rattle.wf_model.specs.Exchange.{Letter}
-use Rattle.wf_model.specs.Halves.{Due}
-use Rattle.wf_model.specs.Core.{CoreState, due_of, is_letter, letter_of}
+use Rattle.wf_model.specs.Exchange.{Letter, sender_of}
+use Rattle.wf_model.specs.Halves.{Half, takes, Due}
+use Rattle.wf_model.specs.Core.{CoreState, due_of, is_letter, letter_of, is_lost}
 use Rattle.wf_model.specs.Replay.{replay}
 use Rattle.wf_model.specs.Lockstep.{place_or_end}
 use Rattle.wf_laws.proofs.Bools.{and_left, and_right}
 use Rattle.wf_core_laws.specs.Patches.{IsCanonical, IsMessage, StopsWithTheFront}
 use Rattle.wf_model.specs.Front.{Stand, front}
 use Rattle.wf_laws.proofs.Members.{find-Some, All-In}
+use Rattle.wf_core_laws.specs.Carried.{IsLostMessage}
+use Rattle.wf_core_laws.proofs.Places.{due_here}
 use Rattle.wf_core_laws.proofs.PatchForms.{has-range, message_of}
 use Rattle.wf_core_laws.proofs.FrontLaws.{At, due-at}
 use Rattle.wf_core_laws.proofs.Sane.{Expected, StopsAt, Sane}
-use Rattle.wf_core_laws.proofs.Takers.{stopped_next}
+use Rattle.wf_core_laws.proofs.Takers.{stopped_next, expects, LostOne, lost_one}
 use Rattle.wf_core_laws.proofs.Kept.{sane}
-use Rattle.wf_core_laws.proofs.LockstepLaws.{all_done, memory_by}
+use Rattle.wf_core_laws.proofs.LockstepLaws.{all_done, memory_by, lockstep_front}
 use Rattle.wf_core_laws.proofs.Numbers.{LetterAt, carries}
 use Rattle.wf_core_laws.proofs.MailExact.{letter_exact}
+use Rattle.wf_core_laws.proofs.Progress.{Closed, There}
+use Rattle.wf_core_laws.proofs.ScriptLaws.{closed}
 
 module _ (r : RunData) (layout : Layout) where
   -- the front has not stopped a patch before its next place
@@ -71,3 +75,22 @@ module _ (r : RunData) (layout : Layout) where
         mail = λ k e q p m. letter_exact r layout es s k e q p h (expected_of k e q p m);
         no_other_mail = λ k q p no_such. none_other s k q p (letter_of s k q p) (carries r layout es s h).letters refl no_such;
       }
+
+  -- a message that is lost: its sender is stopped in the lockstep run
+  lost_at : (s : CoreState) (d p k : ℕ) (e : Entry) → Sane r layout s → Closed r → There r layout d p → due_of r layout s d p ≡ Some (due_here k e takes) → is_lost r layout s (due_here k e takes) p ≡ true → IsLostMessage r layout s (due_here k e takes) p
+  lost_at s d p k e ok closed at is lost =
+      let l : LostOne r layout s d p k e ok is at.patch = lost_one r layout s d p k e ok is at.patch lost in
+      let x : Expected r layout k e l.q p = expects r layout s d p k e ok is at.patch l.q l.sender in
+      let from : There r layout (sender_of r.plan e e.act) l.q = record { domain = closed.sender k e x.entry; patch = x.from } in
+      record {
+        from = l.q;
+        message = message_of r layout k e l.q p x.entry x.cells x.from x.to;
+        missing = l.missing;
+        stopped = (lockstep_front r layout k (sender_of r.plan e e.act) l.q closed from).1 ∙ l.stopped;
+      }
+
+  -- the same, of a half that receives
+  pub lost_message : (s : CoreState) (d p k : ℕ) (e : Entry) (h : Half) → Sane r layout s → Closed r → There r layout d p → due_of r layout s d p ≡ Some (due_here k e h) → h ≡ takes → is_lost r layout s (due_here k e h) p ≡ true → IsLostMessage r layout s (due_here k e h) p
+  lost_message s d p k e h ok closed at is w lost =
+      subst (λ (y : Half). IsLostMessage r layout s (due_here k e y) p) (sym w)
+      (lost_at s d p k e ok closed at (is ∙ ap (λ (y : Half). Some (due_here k e y)) w) (subst (λ (y : Half). is_lost r layout s (due_here k e y) p ≡ true) w lost))

@@ -135,7 +135,7 @@ module _ (r : RunData) (layout : Layout) (ok : IsAccepted r layout) where
     }
 
     -- so no patch lacks mail there
-    lacks_nothing : (p : ℕ) → lacks_mail r layout (front r layout n) (entry_at r n) p ≡ false
+    pub lacks_nothing : (p : ℕ) → lacks_mail r layout (front r layout n) (entry_at r n) p ≡ false
     lacks_nothing p =
         let sd = sender_of r.plan (entry_at r n) (entry_at r n).act in
         any-none (λ q. (front r layout n sd q).is_stopped) (senders_to r.plan (split_of layout) (entry_at r n) p) (λ q is. going n sd q up (patch_of r layout sd q (sender_there q p is)))

@@ -3,7 +3,7 @@ use Rattle.std.proofs.Common.{◌≡◌, inl, inr, ℕ, suc, ◌*◌, ◌<◌, �
 use Rattle.std.specs.Prelude.{slice_get, is_some, option_map, Result}
 use Rattle.std.specs.List.{list_any}
 use Rattle.std.proofs.lemmas.Bool.{eq-eqb, ne_eqb}
-use Rattle.std.proofs.lemmas.Option.{slice_get-get_or, slice_get_within}
+use Rattle.std.proofs.lemmas.Option.{slice_get-get_or}
 use Rattle.wf_model.specs.declared.layout.Layout.{Layout}
 use Rattle.wf_model.specs.declared.point.Point.{Point}
 use Rattle.wf_model.specs.declared.script.Entry.{Entry}
@@ -12,10 +12,9 @@ use Rattle.wf_model.specs.Grids.{Grids}
 use Rattle.wf_model.specs.Changes.{Spot, spots, overflow_in}
 use Rattle.wf_model.specs.Outcome.{RunData, Overflow, script, no_entry, entry_at, what_of, point_of, outcome_of}
 use Rattle.wf_model.specs.Patches.{split_of, patches_of}
-use Rattle.wf_model.specs.Exchange.{sender_of, senders_to}
-use Rattle.wf_model.specs.PatchEffect.{Memory, Setting, computing, least_failure}
+use Rattle.wf_model.specs.PatchEffect.{Memory}
 use Rattle.wf_model.specs.Halves.{Half, acts, sends, takes, posts, Due, act_halves}
-use Rattle.wf_model.specs.Core.{CoreState, due_of, has_mail, failure_at, letter_of}
+use Rattle.wf_model.specs.Core.{CoreState, due_of}
 use Rattle.wf_model.specs.Replay.{IsFull}
 use Rattle.wf_model.specs.Front.{Stand, front, last_half, halves_before, mail_to}
 use Rattle.wf_model.specs.Agreement.{IsAccepted, IsPatch}
@@ -28,28 +27,27 @@ use Rattle.wf_laws.proofs.StopLaws.{outcome_least, least_overflow}
 use Rattle.wf_core_laws.specs.Patches.{IsDomainPatch}
 use Rattle.wf_core_laws.specs.Ends.{IsFinished}
 use Rattle.wf_core_laws.specs.Stops.{IsFirstStop, IsStoppedAt}
-use Rattle.wf_core_laws.specs.LeastStop.{first_overflow, half_names, due_names, stop_names, least_stop_at, stop_at, least_stop}
-use Rattle.wf_core_laws.specs.EveryList.{NoPatchStopsBeforeTheOverflow, LeastStopIsTheFirstOverflow}
+use Rattle.wf_core_laws.specs.LeastStop.{front_names, first_overflow, half_names, due_names, stop_names, least_stop_at, stop_at, least_stop}
+use Rattle.wf_core_laws.specs.EveryList.{NoPatchStopsWhereNothingOverflows, FullListsStopAtTheOverflow, NoPatchStopsBeforeTheOverflow, LeastStopIsTheFirstOverflow}
 use Rattle.wf_core_laws.proofs.Options.{mapped_some}
-use Rattle.wf_core_laws.proofs.Places.{lt_or_le, due_here}
-use Rattle.wf_core_laws.proofs.Members.{Has, not_both, all-made, any-none}
+use Rattle.wf_core_laws.proofs.Members.{Has, not_both, any-none}
 use Rattle.wf_core_laws.proofs.HalvesAt.{LastOrQuiet, last-or-quiet}
-use Rattle.wf_core_laws.proofs.FrontLaws.{At, due-at, halves_before-rises}
-use Rattle.wf_core_laws.proofs.Sane.{StopsAt, Sane, Expected, sends-at}
-use Rattle.wf_core_laws.proofs.Takers.{stopped_next, stopped_before, stops_last, expects, came, mail_is}
-use Rattle.wf_core_laws.proofs.Kept.{sane, takes_set, memory_here}
+use Rattle.wf_core_laws.proofs.FrontLaws.{At, due-at}
+use Rattle.wf_core_laws.proofs.Sane.{StopsAt, Sane}
+use Rattle.wf_core_laws.proofs.Takers.{stopped_next, stops_last}
+use Rattle.wf_core_laws.proofs.Kept.{sane}
 use Rattle.wf_core_laws.proofs.Progress.{Closed}
 use Rattle.wf_core_laws.proofs.PatchForms.{there_of, patch_of, patch_has, range-has}
 use Rattle.wf_core_laws.proofs.End.{end_of_run}
-use Rattle.wf_core_laws.proofs.LockstepLaws.{all_done}
 use Rattle.wf_core_laws.proofs.LeastStop.{NoStop, stop_late, stopped_there, none_stopped}
-use Rattle.wf_core_laws.proofs.NamedStops.{half_fails, going, entry_here, domain_here, half_names as front_names, stops_naming}
+use Rattle.wf_core_laws.proofs.NamedStops.{lacks_nothing, half_names as last_names, half_fails, going, entry_here, domain_here, stops_naming}
+use Rattle.wf_core_laws.proofs.StopsKept.{Complete, complete, names_front}
 use Rattle.wf_core_laws.proofs.StopForms.{none-first, one-first, find-same, any-same, change_domain}
 use Rattle.wf_core_laws.proofs.FirstStop.{first_stop, no_stop_at_all}
 use Rattle.wf_core_laws.proofs.ScriptLaws.{closed}
 use Rattle.wf_core_laws.proofs.Interleavings.{quiet}
 
-module _ (r : RunData) (layout : Layout) (ok : IsAccepted r layout) (s : CoreState) (sane_s : Sane r layout s) (end : IsFinished r layout s) (o : Overflow) (out : outcome_of r ≡ Err o) where
+module _ (r : RunData) (layout : Layout) (ok : IsAccepted r layout) (s : CoreState) (sane_s : Sane r layout s) (held : Complete r layout s) (end : IsFinished r layout s) (o : Overflow) (out : outcome_of r ≡ Err o) where
   -- the overflow's place
   abbrev n : ℕ
   n = o.place
@@ -66,36 +64,15 @@ module _ (r : RunData) (layout : Layout) (ok : IsAccepted r layout) (s : CoreSta
   late : (d p : ℕ) (due : Due) → IsDomainPatch r.plan layout d p → (s.patches d p).is_stopped ≡ true → due_of r layout s d p ≡ Some due → o.place ≤ due.place
   late d p due at st is = stop_late r layout s o.place d p due sane_s (stop.live d p at) st is
 
-  -- each sender of a message to a patch at the overflow's place has sent it
-  all_sent : (d p : ℕ) (e : Entry) → due_of r layout s d p ≡ Some (due_here o.place e takes) → Has (patches_of (split_of layout)) p → (q : ℕ) → Has (senders_to r.plan (split_of layout) e p) q
-      → halves_before r (sender_of r.plan e e.act) o.place < (s.patches (sender_of r.plan e e.act) q).done
-  all_sent d p e is there q is_q =
-      let sd = sender_of r.plan e e.act in
-      let x : Expected r layout o.place e q p = expects r layout s d p o.place e sane_s is there q is_q in
-      let from : IsDomainPatch r.plan layout sd q = patch_of r layout sd q (record { domain = (closed r (ok.sound).some).sender o.place e x.entry; patch = x.from }) in
-      elim (lt_or_le (halves_before r sd o.place) (s.patches sd q).done) [
-        | inl w ↦ w
-        | inr w ↦ elim (end.patches sd q from) [
-          | inl st ↦ absurd (not_both _ (stopped_before r layout s o.place e q p sane_s x st w) (stop.live sd q from))
-          | inr none ↦
-              let a : At r layout sd (halves_before r sd o.place) (due_here o.place e sends) = due-at r layout sd (halves_before r sd o.place) (due_here o.place e sends) (sends-at r layout o.place e q p (halves_before r sd o.place) x refl) in
-              absurd (omega (arith, w, all_done r layout s sd q sane_s none, a.next, a.within, halves_before-rises r layout sd (suc o.place) (length (script r)) (slice_get_within (script r) o.place e x.entry)))
-        ]
-      ]
-
-  -- what a patch that is stopped there names is what its half fails at in the front
-  names_half : (d p k : ℕ) (e : Entry) (h : Half) → k ≡ o.place → IsDomainPatch r.plan layout d p → due_of r layout s d p ≡ Some (due_here k e h) →
-      half_names r layout s d p (due_here k e h) h ≡ half_fails r layout e p e.act (front r layout k d p).memory (mail_to r layout (front r layout k) e p) d h
-  names_half d p k e acts w at is = ap (λ (m : Memory). least_failure r.plan (split_of layout) d p (computing r (split_of layout) e e.act p m)) (memory_here r layout s d p (due_here k e acts) sane_s is)
-  names_half d p k e sends w at is = refl
-  names_half d p k e takes w at is =
-      let there = (there_of r layout d p at).patch in
-      let is_o : due_of r layout s d p ≡ Some (due_here o.place e takes) = is ∙ ap (λ (y : ℕ). Some (due_here y e takes)) w in
-      let full : has_mail r layout s (due_here k e takes) p ≡ true = all-made (λ q. is_some (letter_of s k q p)) (senders_to r.plan (split_of layout) e p) (λ q is_q.
-      ap is_some (came r layout s d p k e sane_s is there q is_q (subst (λ (y : ℕ). halves_before r (sender_of r.plan e e.act) y < (s.patches (sender_of r.plan e e.act) q).done) (sym w) (all_sent d p e is_o there q is_q)))) in
-      let set = takes_set r layout s d p k e (memory_here r layout s d p (due_here k e takes) sane_s is) (mail_is r layout s d p k e sane_s is there full) in
-      ap (λ b. if b then failure_at r layout s d p (due_here k e takes) else None) full ∙ ap (λ (c : Setting). least_failure r.plan (split_of layout) d p c) set
-  names_half d p k e (posts levels) w at is = refl
+  -- no mail lacks at the overflow's place, so what the front names there is where the half fails
+  front_fails : (p : ℕ) (m : Memory) (h : Half) → front_names r layout (front r layout o.place) (entry_at r o.place) (domain_at r o.place) p m h
+      ≡ half_fails r layout (entry_at r o.place) p (entry_at r o.place).act m (mail_to r layout (front r layout o.place) (entry_at r o.place) p) (domain_at r o.place) h
+  front_fails p m acts = refl
+  front_fails p m sends = refl
+  front_fails p m takes =
+      ap (λ b. if b then None else half_fails r layout (entry_at r o.place) p (entry_at r o.place).act m (mail_to r layout (front r layout o.place) (entry_at r o.place) p) (domain_at r o.place) takes)
+      (lacks_nothing r layout ok o.place first.reached first.within p)
+  front_fails p m (posts levels) = refl
 
   -- where a patch is stopped at the overflow's place it names what it names in the lockstep run
   stopped_names : (p : ℕ) → IsDomainPatch r.plan layout (domain_at r o.place) p → IsStoppedAt r layout s o.place (domain_at r o.place) p → stop_names r layout s o.place (domain_at r o.place) p ≡ named_at r layout o.place p
@@ -113,11 +90,12 @@ module _ (r : RunData) (layout : Layout) (ok : IsAccepted r layout) (s : CoreSta
       ap (λ b. if b then due_names r layout s o.place d p (due_of r layout s d p) else None) st.stopped
       ∙ ap (due_names r layout s o.place d p) st.is
       ∙ ap (λ b. if b then half_names r layout s d p due due.half else None) (eq-eqb due.place o.place st.place_is) in
-      here ∙ names_half d p due.place due.entry due.half st.place_is at st.is
-      ∙ ap (half_fails r layout due.entry p (due.entry).act (front r layout due.place d p).memory (mail_to r layout (front r layout due.place) due.entry p) d) (sym last)
-      ∙ ap (λ (y : Entry). half_fails r layout y p y.act (front r layout due.place d p).memory (mail_to r layout (front r layout due.place) y p) d (last_half (act_halves r.plan d y y.act))) e
-      ∙ ap (λ (k : ℕ). half_fails r layout (entry_at r o.place) p (entry_at r o.place).act (front r layout k d p).memory (mail_to r layout (front r layout k) (entry_at r o.place) p) d (last_half (act_halves r.plan d (entry_at r o.place) (entry_at r o.place).act))) st.place_is
-      ∙ front_names r layout ok o.place first.reached first.within p at.patch
+      here ∙ names_front r layout s d p due.place due.entry due.half sane_s held (there_of r layout d p at).patch st.stopped st.is
+      ∙ ap (front_names r layout (front r layout due.place) due.entry d p (front r layout due.place d p).memory) (sym last)
+      ∙ ap (λ (y : Entry). front_names r layout (front r layout due.place) y d p (front r layout due.place d p).memory (last_half (act_halves r.plan d y y.act))) e
+      ∙ ap (λ (k : ℕ). front_names r layout (front r layout k) (entry_at r o.place) d p (front r layout k d p).memory (last_half (act_halves r.plan d (entry_at r o.place) (entry_at r o.place).act))) st.place_is
+      ∙ front_fails p (front r layout o.place d p).memory (last_half (act_halves r.plan d (entry_at r o.place) (entry_at r o.place).act))
+      ∙ last_names r layout ok o.place first.reached first.within p at.patch
     where
       last_of : (d p : ℕ) (due : Due) (stops : StopsAt r layout d p (s.patches d p).done) → stops.due ≡ due → At r layout d (s.patches d p).done due → last_half (act_halves r.plan d due.entry (due.entry).act) ≡ due.half
       last_of d p due stops same a =
@@ -229,7 +207,7 @@ module _ (r : RunData) (layout : Layout) where
   -- the least stop, by the outcome
   least_by : (ok : IsAccepted r layout) (es : List Event) (f : IsFull r layout es) (o : Result Grids Overflow) → outcome_of r ≡ o → least_stop r layout f.0 ≡ first_overflow o
   least_by ok es f (Ok g) out = none_at_all f.0 (sane r layout es f.0 f.1) (no_stop_at_all r layout ok g out) (closed r (ok.sound).some)
-  least_by ok es f (Err o) out = least_is r layout ok f.0 (sane r layout es f.0 f.1) (end_of_run r layout es f.0 (closed r (ok.sound).some) f.1 (quiet r layout f.0 f.2)) o out
+  least_by ok es f (Err o) out = least_is r layout ok f.0 (sane r layout es f.0 f.1) (complete r layout es f.0 f.1) (end_of_run r layout es f.0 (closed r (ok.sound).some) f.1 (quiet r layout f.0 f.2)) o out
 
 -- the law on the least stop
 pub least_stop_is_the_first_overflow : LeastStopIsTheFirstOverflow
@@ -238,3 +216,14 @@ least_stop_is_the_first_overflow r layout es ok f = least_by r layout ok es f (o
 -- the law on stops before the overflow
 pub no_patch_stops_before_the_overflow : NoPatchStopsBeforeTheOverflow
 no_patch_stops_before_the_overflow r layout s n d p due ok h up at st is = stop_late r layout s n d p due (sane r layout h.0 s h.1) (going r layout ok n d p up at) st is
+
+-- the law on runs without an overflow
+pub no_patch_stops_where_nothing_overflows : NoPatchStopsWhereNothingOverflows
+no_patch_stops_where_nothing_overflows r layout s g d p ok h out at = none_stopped r layout s d p (sane r layout h.0 s h.1) (no_stop_at_all r layout ok g out) at
+
+-- the law on the stop of a full list
+pub full_lists_stop_at_the_overflow : FullListsStopAtTheOverflow
+full_lists_stop_at_the_overflow r layout es o ok f out =
+    let first : IsFirstStop r layout o.place = first_stop r layout ok o out in
+    let end : IsFinished r layout f.0 = end_of_run r layout es f.0 (closed r (ok.sound).some) f.1 (quiet r layout f.0 f.2) in
+    (first.d, first.p, first.at, stopped_there r layout f.0 o.place (sane r layout es f.0 f.1) end first)

@@ -1,5 +1,5 @@
 -- What messages and pieces carry: the numbers of the lockstep run.
-use Rattle.std.specs.Prelude.{◌≡◌, ◌==◌, map, Some, slice_get, IsTrue}
+use Rattle.std.specs.Prelude.{◌≡◌, ℕ, ◌==◌, map, Some, None, slice_get, IsTrue}
 use Rattle.std.specs.List.{list_any}
 use Rattle.wf_model.specs.declared.layout.Layout.{Layout}
 use Rattle.wf_model.specs.declared.frame.Frame.{Frame}
@@ -8,7 +8,9 @@ use Rattle.wf_model.specs.Outcome.{RunData}
 use Rattle.wf_model.specs.Frames.{frames_of, variables_of}
 use Rattle.wf_model.specs.Patches.{split_of, own_box, cells_in}
 use Rattle.wf_model.specs.Exchange.{Letter, sender_of, carried}
-use Rattle.wf_model.specs.Core.{Posted, memory_point}
+use Rattle.wf_model.specs.Halves.{Due}
+use Rattle.wf_model.specs.Core.{CoreState, Posted, letter_of, memory_point}
+use Rattle.wf_model.specs.Lockstep.{lockstep_at}
 use Rattle.wf_model.specs.Held.{message_numbers, piece_numbers}
 use Rattle.wf_model.specs.Agreement.{memory_at}
 use Rattle.wf_core_laws.specs.Patches.{IsDomainPatch, IsMessage}
@@ -36,3 +38,10 @@ HasMessageNumbers r layout l = l.values ≡ message_numbers r layout l.place l.f
 -- and a piece those of its frame, its variable and its patch
 abbrev pub HasFrameNumbers : RunData → Layout → Posted → Type 0
 HasFrameNumbers r layout x = x.values ≡ piece_numbers r layout x.frame x.field x.patch
+
+-- a message to a patch at a place is lost: it is not in the mail, and in the lockstep run its sender is stopped before that place
+pub record IsLostMessage (r : RunData) (layout : Layout) (s : CoreState) (due : Due) (p : ℕ) : Type 0 where
+  pub from : ℕ
+  pub message : IsMessage r layout due.place due.entry from p
+  pub missing : letter_of s due.place from p ≡ None
+  pub stopped : IsTrue ((lockstep_at r layout due.place).patches (sender_of r.plan due.entry (due.entry).act) from).is_stopped

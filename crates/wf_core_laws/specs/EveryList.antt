@@ -1,19 +1,21 @@
 -- What holds of every list of enabled events, whatever their order.
-use Rattle.std.specs.Prelude.{◌≡◌, ℕ, ◌≤◌, true, List, length, map, flat_map, take, All, Some}
+use Rattle.std.specs.Prelude.{◌≡◌, ℕ, ◌≤◌, true, IsTrue, IsFalse, List, length, map, flat_map, take, All, Some, Ok, Err}
 use Rattle.wf_model.specs.declared.layout.Layout.{Layout}
 use Rattle.wf_model.specs.declared.event.Event.{Event}
 use Rattle.wf_model.specs.Plans.{domains_of}
-use Rattle.wf_model.specs.Outcome.{RunData, outcome_of}
+use Rattle.wf_model.specs.Grids.{Grids}
+use Rattle.wf_model.specs.Outcome.{RunData, Overflow, outcome_of}
 use Rattle.wf_model.specs.Frames.{frames_of, frames_written}
 use Rattle.wf_model.specs.Patches.{split_of, patches_of}
-use Rattle.wf_model.specs.Core.{CoreState, due_of}
+use Rattle.wf_model.specs.Core.{CoreState, due_of, is_lost}
 use Rattle.wf_model.specs.Replay.{replay, replay_from, IsEnabled, IsReachable, IsEnd, IsFull}
 use Rattle.wf_model.specs.Lockstep.{memory_line, memory_report}
 use Rattle.wf_model.specs.Agreement.{IsAccepted, IsUpToOverflow}
 use Rattle.wf_core_laws.specs.Patches.{IsDomainPatch, IsCanonical}
-use Rattle.wf_core_laws.specs.Carried.{IsLockstepLetter, IsLockstepPiece, HasMessageNumbers, HasFrameNumbers}
+use Rattle.wf_core_laws.specs.Carried.{IsLockstepLetter, IsLockstepPiece, HasMessageNumbers, HasFrameNumbers, IsLostMessage}
 use Rattle.wf_core_laws.specs.Ends.{WritesTheFirst, IsFinished, FollowsLockstep, AreAlike}
-use Rattle.wf_model.specs.Halves.{Due}
+use Rattle.wf_model.specs.Halves.{takes, Due}
+use Rattle.wf_core_laws.specs.Stops.{IsStoppedAt}
 use Rattle.wf_core_laws.specs.LeastStop.{least_stop, first_overflow}
 use Rattle.wf_core_laws.specs.EventCount.{most_events}
 
@@ -51,6 +53,12 @@ abbrev pub PiecesCarryTheirNumbers : Type 0
 PiecesCarryTheirNumbers =
     (r : RunData) (layout : Layout) (s : CoreState) → IsAccepted r layout → IsReachable r layout s →
     All (HasFrameNumbers r layout) s.pieces × All (HasFrameNumbers r layout) s.gathered
+
+-- where a patch may stop for want of a message, there is a message to it whose sender the lockstep run stops before that place
+abbrev pub LostMessagesAreOfStoppedPatches : Type 0
+LostMessagesAreOfStoppedPatches =
+    (r : RunData) (layout : Layout) (s : CoreState) (d p : ℕ) (due : Due) → HasDomain r → IsReachable r layout s → IsDomainPatch r.plan layout d p → due_of r layout s d p ≡ Some due → due.half ≡ takes →
+    IsTrue (is_lost r layout s due p) → IsLostMessage r layout s due p
 
 -- a state with no event enabled is an end
 abbrev pub NoStateIsStuck : Type 0
@@ -100,7 +108,18 @@ NoPatchStopsBeforeTheOverflow =
     (r : RunData) (layout : Layout) (s : CoreState) (n d p : ℕ) (due : Due) → IsAccepted r layout → IsReachable r layout s → IsUpToOverflow r n → IsDomainPatch r.plan layout d p →
     (s.patches d p).is_stopped ≡ true → due_of r layout s d p ≡ Some due → n ≤ due.place
 
--- and the least stop of a full list, by place, level, k, j and i, is the first overflow; there is none where nothing overflows
+-- so where nothing overflows no state has a patch that is stopped
+abbrev pub NoPatchStopsWhereNothingOverflows : Type 0
+NoPatchStopsWhereNothingOverflows =
+    (r : RunData) (layout : Layout) (s : CoreState) (g : Grids) (d p : ℕ) → IsAccepted r layout → IsReachable r layout s → outcome_of r ≡ Ok g → IsDomainPatch r.plan layout d p → IsFalse (s.patches d p).is_stopped
+
+-- and where the run overflows each full list ends with a patch that is stopped at that place
+abbrev pub FullListsStopAtTheOverflow : Type 0
+FullListsStopAtTheOverflow =
+    (r : RunData) (layout : Layout) (es : List Event) (o : Overflow) → IsAccepted r layout → (f : IsFull r layout es) → outcome_of r ≡ Err o →
+    (d : ℕ) × (p : ℕ) × IsDomainPatch r.plan layout d p × IsStoppedAt r layout f.0 o.place d p
+
+-- the least stop of a full list, by place, level, k, j and i, is the first overflow; there is none where nothing overflows
 abbrev pub LeastStopIsTheFirstOverflow : Type 0
 LeastStopIsTheFirstOverflow =
     (r : RunData) (layout : Layout) (es : List Event) → IsAccepted r layout → (f : IsFull r layout es) → least_stop r layout f.0 ≡ first_overflow (outcome_of r)

@@ -1,10 +1,11 @@
 -- The lockstep run and the front.
-use Rattle.std.specs.Prelude.{◌≡◌, ℕ, ◌≤◌, length, map, flat_map, fold, pos, ◌+ℤ◌}
+use Rattle.std.specs.Prelude.{◌≡◌, ℕ, ◌≤◌, length, map, flat_map, filter, nat_lt, fold, pos, ◌+ℤ◌}
 use Rattle.wf_model.specs.declared.layout.Layout.{Layout}
 use Rattle.wf_model.specs.Plans.{domains_of}
 use Rattle.wf_model.specs.Outcome.{RunData, script}
 use Rattle.wf_model.specs.Patches.{split_of, patches_of}
-use Rattle.wf_model.specs.Front.{front}
+use Rattle.wf_model.specs.Halves.{halves_of}
+use Rattle.wf_model.specs.Front.{front, halves_before}
 use Rattle.wf_model.specs.Lockstep.{MemoryLine, lockstep_at, place_after, memory_after, memory_report, cells_of_patch}
 use Rattle.wf_core_laws.specs.Patches.{IsDomainPatch}
 
@@ -35,3 +36,7 @@ abbrev pub MemoryReportIsTheFronts : Type 0
 MemoryReportIsTheFronts =
     (r : RunData) (layout : Layout) → 1 ≤ length r.plan.domains →
     memory_report r layout ≡ flat_map (λ d. map (front_line r layout d) (patches_of (split_of layout))) (domains_of r.plan)
+
+-- the number of halves before a place counts a domain's halves that stand before it
+abbrev pub HalvesBeforeAreCounted : Type 0
+HalvesBeforeAreCounted = (r : RunData) (d n : ℕ) → halves_before r d n ≡ length (filter (λ x. nat_lt x.place n) (halves_of r d))

@@ -1,15 +1,20 @@
 -- The least stop of a state: by place, and then by level, k, j and i of the point that a stopped patch names.
-use Rattle.std.specs.Prelude.{ℕ, ◌==◌, List, [], ◌∷◌, length, find, Option, Some, None, option_map, Result, Ok, Err, if◌then◌else◌}
+use Rattle.std.specs.Prelude.{◌≡◌, true, ℕ, ◌==◌, List, [], ◌∷◌, length, find, Option, Some, None, option_map, Result, Ok, Err, if◌then◌else◌}
 use Rattle.std.specs.Option.{option_or}
 use Rattle.std.specs.List.{list_any, range_with_len}
 use Rattle.wf_model.specs.declared.layout.Layout.{Layout}
+use Rattle.wf_model.specs.declared.script.Entry.{Entry}
 use Rattle.wf_model.specs.Grids.{Grids}
 use Rattle.wf_model.specs.Changes.{Spot, spots}
 use Rattle.wf_model.specs.Outcome.{RunData, Overflow, script, entry_at, what_of}
 use Rattle.wf_model.specs.Patches.{split_of, patches_of}
 use Rattle.wf_model.specs.Halves.{Half, acts, sends, takes, posts, Due}
 use Rattle.wf_model.specs.Core.{CoreState, due_of, has_mail, failure_at}
+use Rattle.wf_model.specs.PatchEffect.{Memory, least_failure}
+use Rattle.wf_model.specs.Front.{Stands, half_sets, lacks_mail, front}
+use Rattle.wf_model.specs.Replay.{IsReachable}
 use Rattle.wf_laws.specs.Stops.{domain_at, is_named}
+use Rattle.wf_core_laws.specs.Patches.{IsDomainPatch}
 
 -- the first of the list of which there is something
 unfoldable pub first_some : {A : Type 0} → (ℕ → Option A) → List ℕ → Option A
@@ -51,3 +56,21 @@ module _ (r : RunData) (layout : Layout) where
   -- the least of all stops that name a point
   unfoldable pub least_stop : CoreState → Option Overflow
   least_stop s = first_some (λ n. option_map (stop_at n) (least_stop_at s n)) (range_with_len 0 (length (script r)))
+
+  -- the point at which a half of the front overflows; a patch that lacks mail names none
+  abbrev pub front_names : Stands → Entry → ℕ → ℕ → Memory → Half → Option Spot
+  front_names f e d p m acts = least_failure r.plan (split_of layout) d p (half_sets r layout f e p m acts)
+  front_names f e d p m sends = None
+  front_names f e d p m takes = if lacks_mail r layout f e p then None else least_failure r.plan (split_of layout) d p (half_sets r layout f e p m takes)
+  front_names f e d p m (posts levels) = None
+
+-- in each state that a list of enabled events leads to, a patch that is stopped names the point of the front: so it names the same in each later state
+abbrev pub StoppedPatchesNameTheFrontsPoints : Type 0
+StoppedPatchesNameTheFrontsPoints =
+    (r : RunData) (layout : Layout) (s : CoreState) (d p : ℕ) (due : Due) → IsReachable r layout s → IsDomainPatch r.plan layout d p → (s.patches d p).is_stopped ≡ true → due_of r layout s d p ≡ Some due →
+    stop_names r layout s due.place d p ≡ front_names r layout (front r layout due.place) due.entry d p (front r layout due.place d p).memory due.half
+
+-- and it is of the domain that computes or receives at its place
+abbrev pub StoppedPatchesComputeOrReceive : Type 0
+StoppedPatchesComputeOrReceive =
+    (r : RunData) (layout : Layout) (s : CoreState) (d p : ℕ) (due : Due) → IsReachable r layout s → (s.patches d p).is_stopped ≡ true → due_of r layout s d p ≡ Some due → d ≡ domain_at r due.place

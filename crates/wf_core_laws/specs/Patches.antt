@@ -39,7 +39,7 @@ pub record StopsWithTheFront (r : RunData) (layout : Layout) (s : CoreState) (d 
 
 -- a state in canonical form: how many halves each patch has done and which are stopped tells all memories and all mail
 pub record IsCanonical (r : RunData) (layout : Layout) (s : CoreState) : Type 0 where
-  -- no patch has done more halves than it has
+  -- no patch has done more halves than the script has for its domain
   pub done : (d p : ℕ) → (s.patches d p).done ≤ halves_before r d (length (script r))
   -- its memory is the front's before its next place, and there the front has not stopped it
   pub memory : (d p : ℕ) → (s.patches d p).memory ≡ (front r layout (place_after r layout d (s.patches d p).done) d p).memory

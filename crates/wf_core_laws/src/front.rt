@@ -1,5 +1,5 @@
 //! The front tells where each patch stands before each place of the script, and the lockstep run goes along it.
-ghost use Rattle.wf_core_laws.specs.Front.{LockstepRunIsTheFront, MemoryAfterHalvesIsTheFronts, MemoryReportIsTheFronts};
+ghost use Rattle.wf_core_laws.specs.Front.{LockstepRunIsTheFront, MemoryAfterHalvesIsTheFronts, MemoryReportIsTheFronts, HalvesBeforeAreCounted};
 
 /// Before each place of the script each patch of the lockstep run has the memory of the front, and is stopped where the front stops it.
 pub fn lockstep_run_is_the_front()
@@ -14,4 +14,9 @@ pub fn memory_after_halves_is_the_fronts()
 /// The memory report, which is the lockstep run's, is that of the front at the script's end.
 pub fn memory_report_is_the_fronts()
     ensures { MemoryReportIsTheFronts }
+{}
+
+/// How many halves a domain's patches have before a place is the count of those that stand at earlier places.
+pub fn halves_before_are_counted()
+    ensures { HalvesBeforeAreCounted }
 {}

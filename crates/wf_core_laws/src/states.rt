@@ -1,6 +1,6 @@
 //! What holds of every state that a list of enabled events leads to.
 ghost use Rattle.wf_core_laws.specs.PieceCount.{EachPieceIsThereOnce};
-ghost use Rattle.wf_core_laws.specs.EveryList.{EveryReachableStateIsCanonical, PatchesFollowTheLockstepRun, LettersCarryTheLockstepRunsNumbers, PiecesCarryTheLockstepRunsNumbers, LettersCarryTheirNumbers, PiecesCarryTheirNumbers, FramesWrittenAreTheFirst, FramesWrittenAreTheRuns};
+ghost use Rattle.wf_core_laws.specs.EveryList.{EveryReachableStateIsCanonical, PatchesFollowTheLockstepRun, LettersCarryTheLockstepRunsNumbers, PiecesCarryTheLockstepRunsNumbers, LettersCarryTheirNumbers, PiecesCarryTheirNumbers, LostMessagesAreOfStoppedPatches, FramesWrittenAreTheFirst, FramesWrittenAreTheRuns};
 
 /// How many halves each patch has done and which patches are stopped tells all memories and all mail of a state.
 pub fn every_reachable_state_is_canonical()
@@ -30,6 +30,11 @@ pub fn letters_carry_their_numbers()
 /// On a plan that the halo check accepts each piece carries the numbers of its variable in its frame: up to the first overflow those of the grids.
 pub fn pieces_carry_their_numbers()
     ensures { PiecesCarryTheirNumbers }
+{}
+
+/// Where a patch may stop for want of a message, there is a message to it that is not in the mail and whose sender the lockstep run stops before that place.
+pub fn lost_messages_are_of_stopped_patches()
+    ensures { LostMessagesAreOfStoppedPatches }
 {}
 
 /// Of each frame, variable and patch there is one piece, posted or gathered, once the patch has come past the frame's emit, and none before.
