@@ -1,2 +1,3 @@
 pub mod JoinedLines
 pub mod FactorRoom
+pub mod StoreRunLaws
