@@ -1,0 +1,10 @@
+pub mod CellLaws
+pub mod DomainLaws
+pub mod EndLaws
+pub mod FrameLaws
+pub mod HeaderLaws
+pub mod MemoryLaws
+pub mod PatchLaws
+pub mod RangeLaws
+pub mod RecordLaws
+pub mod ValueLaws

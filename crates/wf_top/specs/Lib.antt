@@ -1,0 +1,7 @@
+pub mod Cells
+pub mod Memories
+pub mod Domains
+pub mod DemoHeader
+pub mod Ends
+pub mod Told
+pub mod Limits

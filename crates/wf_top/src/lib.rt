@@ -1,0 +1,17 @@
+//! The top calls: from a command's words to its files, its text and its status.
+#![tactic(auto)]
+
+mod cells;
+mod frames;
+mod header;
+mod memory;
+mod patch;
+mod patches;
+mod record;
+mod say;
+mod text;
+mod top;
+mod words;
+mod writes;
+
+pub use top::tool_main;
