@@ -34,8 +34,8 @@ pub each_kept : (nx ny px target : ℕ) (before after : List Patch) → length a
 each_kept nx ny px target before after size within others shape each q h other =
     let in_before : q < length before = omega arith in
     elim (cases_eq q target) [
-      inl e ↦ subst (λ k. IsPatch nx ny px k (get_or after k other)) (sym e) (patch_kept nx ny px target (get_or before target other) (get_or after target other) (each target within other) (shape other))
-    | inr ne ↦ subst (IsPatch nx ny px q) (sym (others q other ne)) (each q in_before other)
+      | inl e ↦ subst (λ k. IsPatch nx ny px k (get_or after k other)) (sym e) (patch_kept nx ny px target (get_or before target other) (get_or after target other) (each target within other) (shape other))
+      | inr ne ↦ subst (IsPatch nx ny px q) (sym (others q other ne)) (each q in_before other)
     ]
 
 -- the first patch has no column before its own
@@ -70,8 +70,8 @@ up_to_more p own west east start old new size others here u = record {
   done = λ q other h.
       subst (λ n. Holds n own west east (get_or new.patches.items q other)) (sym size.ny)
       (elim (cases_eq q p) [
-        inl e ↦ subst (λ k. Holds old.ny own west east (get_or new.patches.items k other)) (sym e) (here other)
-      | inr ne ↦ subst (Holds old.ny own west east) (sym (others q other ne)) (u.done q other (omega arith))
+        | inl e ↦ subst (λ k. Holds old.ny own west east (get_or new.patches.items k other)) (sym e) (here other)
+        | inr ne ↦ subst (Holds old.ny own west east) (sym (others q other ne)) (u.done q other (omega arith))
       ]);
   rest = λ q other h. others q other (λ e. omega arith) ∙ u.rest q other (omega arith);
 }

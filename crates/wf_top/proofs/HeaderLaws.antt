@@ -45,17 +45,28 @@ fixed_dim : (name : List ℕ) (n : ℕ) → 0 < n → is_record_dim (dim name n)
 fixed_dim name n p = grind (arith, nat_tests)
 
 field_atts_sound : All IsSoundAtt field_atts
-field_atts_sound = All-from_recursion IsSoundAtt field_atts
-    (int_sound (codes "FieldType") 106 (lit< tt), (text_sound (codes "MemoryOrder") (codes "XY ") (lit< tt) (lit< tt), (text_sound (codes "description") [] (lit< tt) (lit< tt),
-    (text_sound (codes "units") [] (lit< tt) (lit< tt), (text_sound (codes "stagger") [] (lit< tt) (lit< tt), tt)))))
+field_atts_sound = All-from_recursion IsSoundAtt field_atts (
+  int_sound (codes "FieldType") 106 (lit< tt),
+  (
+    text_sound (codes "MemoryOrder") (codes "XY ") (lit< tt) (lit< tt),
+    (
+      text_sound (codes "description") [] (lit< tt) (lit< tt),
+      (text_sound (codes "units") [] (lit< tt) (lit< tt), (text_sound (codes "stagger") [] (lit< tt) (lit< tt), tt)),
+    ),
+  ),
+)
 
 demo_atts_sound : All IsSoundAtt demo_atts
 demo_atts_sound = All-from_recursion IsSoundAtt demo_atts (text_sound (codes "START_DATE") case_start (lit< tt) (lit< tt), (int_sound (codes "GRID_ID") 1 (lit< tt), tt))
 
 demo_dims_sound : (nx ny : ℕ) → nx ≤ 200 → ny ≤ 200 → All IsSoundDim (demo_dims nx ny)
-demo_dims_sound nx ny p q = All-from_recursion IsSoundDim (demo_dims nx ny)
-    (dim_sound (codes "Time") 0 (lit< tt) (lit< tt), (dim_sound (codes "DateStrLen") 19 (lit< tt) (lit< tt),
-    (dim_sound (codes "west_east") nx (lit< tt) (omega arith), (dim_sound (codes "south_north") ny (lit< tt) (omega arith), tt))))
+demo_dims_sound nx ny p q = All-from_recursion IsSoundDim (demo_dims nx ny) (
+  dim_sound (codes "Time") 0 (lit< tt) (lit< tt),
+  (
+    dim_sound (codes "DateStrLen") 19 (lit< tt) (lit< tt),
+    (dim_sound (codes "west_east") nx (lit< tt) (omega arith), (dim_sound (codes "south_north") ny (lit< tt) (omega arith), tt)),
+  ),
+)
 
 times_sound : (nx ny : ℕ) → IsSoundVar (demo_dims nx ny) times_var
 times_sound nx ny = record {

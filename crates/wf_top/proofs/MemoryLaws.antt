@@ -23,10 +23,10 @@ column_small nx ny n a b patch h r c hr low high = subst (λ (z : ℤ). unsigned
 pub memory_small : (nx ny n m k : ℕ) (patch : Patch) → Holds ny (demo_value nx ny n) (demo_value nx ny m) (demo_value nx ny k) patch → AreSmall patch.values.items patch.width ny
 memory_small nx ny n m k patch h r c hr hc =
     elim (cases_lt c patch.west) [
-      inl before ↦ column_small nx ny m 0 patch.west patch h.before r c hr (omega arith) before
-    | inr past ↦ elim (cases_lt c (patch.west + patch.own)) [
-        inl inside ↦ column_small nx ny n patch.west (patch.west + patch.own) patch h.inside r c hr past inside
-      | inr behind ↦ column_small nx ny k (patch.west + patch.own) patch.width patch h.behind r c hr behind hc
+      | inl before ↦ column_small nx ny m 0 patch.west patch h.before r c hr (omega arith) before
+      | inr past ↦ elim (cases_lt c (patch.west + patch.own)) [
+        | inl inside ↦ column_small nx ny n patch.west (patch.west + patch.own) patch h.inside r c hr past inside
+        | inr behind ↦ column_small nx ny k (patch.west + patch.own) patch.width patch h.behind r c hr behind hc
       ]
     ]
 
@@ -40,9 +40,9 @@ unfolding of_column
 column_is nx ny n a b patch h c i low high e =
     sum_same (λ r. size_at patch.values.items patch.width r c) (λ j. demo_value nx ny n j i) 0 1 ny
     (λ k hk.
-        let row : 0 + k ≡ k = omega arith in
-        let from_one : k + 1 ≡ 1 + k = omega arith in
-        ap (λ r. size_at patch.values.items patch.width r c) row ∙ ap unsigned_abs (h k c hk low high) ∙ ap (λ x. demo_value nx ny n (k + 1) x) e ∙ ap (λ j. demo_value nx ny n j i) from_one)
+    let row : 0 + k ≡ k = omega arith in
+    let from_one : k + 1 ≡ 1 + k = omega arith in
+    ap (λ r. size_at patch.values.items patch.width r c) row ∙ ap unsigned_abs (h k c hk low high) ∙ ap (λ x. demo_value nx ny n (k + 1) x) e ∙ ap (λ j. demo_value nx ny n j i) from_one)
 
 -- a column that the domain has, and one that it has not
 if_there : (nx n i : ℕ) → 0 < i → i ≤ nx → if_column nx n i ≡ (n, i) ∷ []
@@ -82,10 +82,10 @@ parts_west : (d : Demo) (p : ℕ) (patch : Patch) → IsPatch d.nx d.ny d.px p p
 parts_west d p patch is =
     let first = first_column d.nx d.px p - 1 in
     elim (cases_lt 0 first) [
-      inl some ↦
-        let e : first ≡ patch.from + 0 + 1 = omega (arith, is.block.from, is.block.west, some) in
-        inl (omega (arith, is.block.from, is.block.west, some), if_there d.nx (d.steps - 1) first some (omega (arith, is.block.some, is.block.within)) ∙ ap (λ i. (d.steps - 1, i) ∷ []) e)
-    | inr none ↦ inr (omega (arith, is.block.from, is.block.west, none), if_not d.nx (d.steps - 1) first (inl (omega arith)))
+      | inl some ↦
+          let e : first ≡ patch.from + 0 + 1 = omega (arith, is.block.from, is.block.west, some) in
+          inl (omega (arith, is.block.from, is.block.west, some), if_there d.nx (d.steps - 1) first some (omega (arith, is.block.some, is.block.within)) ∙ ap (λ i. (d.steps - 1, i) ∷ []) e)
+      | inr none ↦ inr (omega (arith, is.block.from, is.block.west, none), if_not d.nx (d.steps - 1) first (inl (omega arith)))
     ]
 
 parts_east : (d : Demo) (p : ℕ) (patch : Patch) → IsPatch d.nx d.ny d.px p patch
@@ -94,10 +94,10 @@ parts_east : (d : Demo) (p : ℕ) (patch : Patch) → IsPatch d.nx d.ny d.px p p
 parts_east d p patch is =
     let end = end_column d.nx d.px p in
     elim (cases_lt d.nx end) [
-      inl past ↦ inr (omega (arith, is.block.from, is.block.west, is.block.own, is.block.width, past), if_not d.nx (d.steps - 1) end (inr past))
-    | inr there ↦
-        let e : end ≡ patch.from + (patch.west + patch.own) + 1 = omega (arith, is.block.west, is.block.own) in
-        inl (omega (arith, is.block.from, is.block.west, is.block.own, is.block.width, there), if_there d.nx (d.steps - 1) end (omega arith) there ∙ ap (λ i. (d.steps - 1, i) ∷ []) e)
+      | inl past ↦ inr (omega (arith, is.block.from, is.block.west, is.block.own, is.block.width, past), if_not d.nx (d.steps - 1) end (inr past))
+      | inr there ↦
+          let e : end ≡ patch.from + (patch.west + patch.own) + 1 = omega (arith, is.block.west, is.block.own) in
+          inl (omega (arith, is.block.from, is.block.west, is.block.own, is.block.width, there), if_there d.nx (d.steps - 1) end (omega arith) there ∙ ap (λ i. (d.steps - 1, i) ∷ []) e)
     ]
 
 parts_of : (d : Demo) (p : ℕ) (patch : Patch) → IsPatch d.nx d.ny d.px p patch → Parts d p (patch.width - (patch.west + patch.own)) patch
@@ -140,13 +140,13 @@ sum_is d p patch is h =
     let inside : List (ℕ × ℕ) = map (λ i. (d.steps, i)) (range_with_len first (end - first)) in
     let behind = if_column d.nx (d.steps - 1) end in
     let b : sum_by g (range_with_len 0 patch.west) ≡ sum_by f before =
-        sum_there f g (d.steps - 1) (patch.from + 0 + 1) 0 patch.west before parts.before (λ one. column_is d.nx d.ny (d.steps - 1) 0 patch.west patch h.before 0 (patch.from + 0 + 1) (omega arith) (omega arith) refl) in
+    sum_there f g (d.steps - 1) (patch.from + 0 + 1) 0 patch.west before parts.before (λ one. column_is d.nx d.ny (d.steps - 1) 0 patch.west patch h.before 0 (patch.from + 0 + 1) (omega arith) (omega arith) refl) in
     let c : sum_by g (range_with_len patch.west patch.own) ≡ sum_by f inside =
-        sum_same g (λ i. f (d.steps, i)) patch.west first patch.own (λ k hk. column_is d.nx d.ny d.steps patch.west (patch.west + patch.own) patch h.inside (patch.west + k) (first + k) (omega arith) (omega (arith, hk)) (omega (arith, parts.first)))
-        ∙ ap (λ n. sum_by (λ i. f (d.steps, i)) (range_with_len first n)) (sym parts.count) ∙ sym (sum_map f (λ i. (d.steps, i)) (range_with_len first (end - first))) in
+    sum_same g (λ i. f (d.steps, i)) patch.west first patch.own (λ k hk. column_is d.nx d.ny d.steps patch.west (patch.west + patch.own) patch h.inside (patch.west + k) (first + k) (omega arith) (omega (arith, hk)) (omega (arith, parts.first)))
+    ∙ ap (λ n. sum_by (λ i. f (d.steps, i)) (range_with_len first n)) (sym parts.count) ∙ sym (sum_map f (λ i. (d.steps, i)) (range_with_len first (end - first))) in
     let e : sum_by g (range_with_len (patch.west + patch.own) east) ≡ sum_by f behind =
-        sum_there f g (d.steps - 1) (patch.from + (patch.west + patch.own) + 1) (patch.west + patch.own) east behind parts.behind
-        (λ one. column_is d.nx d.ny (d.steps - 1) (patch.west + patch.own) patch.width patch h.behind (patch.west + patch.own) (patch.from + (patch.west + patch.own) + 1) (omega arith) (omega (arith, one)) refl) in
+    sum_there f g (d.steps - 1) (patch.from + (patch.west + patch.own) + 1) (patch.west + patch.own) east behind parts.behind
+    (λ one. column_is d.nx d.ny (d.steps - 1) (patch.west + patch.own) patch.width patch h.behind (patch.west + patch.own) (patch.from + (patch.west + patch.own) + 1) (omega arith) (omega (arith, one)) refl) in
     let start : 0 + patch.west ≡ patch.west = omega arith in
     ap (λ n. sum_by g (range_with_len 0 n)) parts.width
     ∙ sum_split g 0 patch.west (patch.own + east)

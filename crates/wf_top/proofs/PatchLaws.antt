@@ -14,9 +14,9 @@ use Rattle.wf_top.specs.Memories.{IsBlock, HasRows, Hold, Holds, Each, IsPatch, 
 -- a block is not empty
 pub block_some : (nx px p : ℕ) → 0 < px → px ≤ nx → block_start nx px p < block_start nx px (p + 1)
 block_some nx px p some most = elim (cases_lt (p * nx / px) ((p + 1) * nx / px)) [
-    inl h ↦ h
+  | inl h ↦ h
   | inr h ↦ absurd (omega (arith, mul-le-mul_left px h))
-  ]
+]
 
 -- blocks end with the last column
 pub block_within : (nx px p : ℕ) → 0 < px → p ≤ px → block_start nx px p ≤ nx
@@ -47,20 +47,20 @@ pub each_set : (P : ℕ → Patch → Type 0) (xs : List Patch) (p : ℕ) (y : P
 each_set P xs p y others here q h other =
     let in_list : q < length xs = omega (arith, length-set xs p y) in
     elim (cases_eq q p) [
-      inl e ↦
-        let p_in : p < length xs = omega arith in
-        subst (λ k. P k (get_or (set xs p y) k other)) (sym e) (subst (P p) (sym (get_or-set_same xs p y other p_in)) here)
-    | inr ne ↦ subst (P q) (sym (get_or-set_other xs p q y other ne)) (others q in_list ne other)
+      | inl e ↦
+          let p_in : p < length xs = omega arith in
+          subst (λ k. P k (get_or (set xs p y) k other)) (sym e) (subst (P p) (sym (get_or-set_same xs p y other p_in)) here)
+      | inr ne ↦ subst (P q) (sym (get_or-set_other xs p q y other ne)) (others q in_list ne other)
     ]
 
 -- where a patch was added
 pub each_push : (P : ℕ → Patch → Type 0) (xs : List Patch) (y : Patch) → Each P xs → P (length xs) y → Each P (xs ++ y ∷ [])
 each_push P xs y before here q h other =
     elim (cases_lt q (length xs)) [
-      inl below ↦ subst (P q) (sym (get_or-append xs (y ∷ []) other q below)) (before q below other)
-    | inr past ↦
-        let e : q ≡ length xs = omega (arith, length_push xs y) in
-        subst (λ k. P k (get_or (xs ++ y ∷ []) k other)) (sym e) (subst (P (length xs)) (sym (get_or-append_seam xs y [] other)) here)
+      | inl below ↦ subst (P q) (sym (get_or-append xs (y ∷ []) other q below)) (before q below other)
+      | inr past ↦
+          let e : q ≡ length xs = omega (arith, length_push xs y) in
+          subst (λ k. P k (get_or (xs ++ y ∷ []) k other)) (sym e) (subst (P (length xs)) (sym (get_or-append_seam xs y [] other)) here)
     ]
 
 -- ---- a patch that keeps its shape
@@ -96,10 +96,10 @@ at_new old new shape r c grid e = ap (λ w. cell new.values.items w r c) shape.w
 pub hold_all : (nx ny first end : ℕ) (grid : ℕ → ℕ → ℕ) (patch : Patch) → Holds ny grid grid grid patch → Hold grid ny patch 0 patch.width
 hold_all nx ny first end grid patch h r c hr low high =
     elim (cases_lt c patch.west) [
-      inl before ↦ h.before r c hr low before
-    | inr past ↦ elim (cases_lt c (patch.west + patch.own)) [
-        inl inside ↦ h.inside r c hr past inside
-      | inr behind ↦ h.behind r c hr behind high
+      | inl before ↦ h.before r c hr low before
+      | inr past ↦ elim (cases_lt c (patch.west + patch.own)) [
+        | inl inside ↦ h.inside r c hr past inside
+        | inr behind ↦ h.behind r c hr behind high
       ]
     ]
 

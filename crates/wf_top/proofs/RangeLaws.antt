@@ -43,11 +43,11 @@ pub sum_same : (f g : ℕ → ℕ) (a b n : ℕ) → ((k : ℕ) → k < n → f 
 sum_same f g a b zero h = refl
 sum_same f g a b (suc n) h =
     let head : f a ≡ g b =
-        let p : a ≡ a + 0 = omega arith in
-        let q : b + 0 ≡ b = omega arith in ap f p ∙ h 0 (omega arith) ∙ ap g q in
+    let p : a ≡ a + 0 = omega arith in
+    let q : b + 0 ≡ b = omega arith in ap f p ∙ h 0 (omega arith) ∙ ap g q in
     let rest = sum_same f g (a + 1) (b + 1) n (λ k hk.
-        let p : a + 1 + k ≡ a + (k + 1) = omega arith in
-        let q : b + (k + 1) ≡ b + 1 + k = omega arith in ap f p ∙ h (k + 1) (omega arith) ∙ ap g q) in
+    let p : a + 1 + k ≡ a + (k + 1) = omega arith in
+    let q : b + (k + 1) ≡ b + 1 + k = omega arith in ap f p ∙ h (k + 1) (omega arith) ∙ ap g q) in
     sum_cons f a (range_with_len (a + 1) n) ∙ ap (λ k. k + sum_by f (range_with_len (a + 1) n)) head ∙ ap (λ k. g b + k) rest ∙ sym (sum_cons g b (range_with_len (b + 1) n))
 
 -- a sum over a list that was made from numbers

@@ -26,13 +26,13 @@ own_part_is nx ny px p r own patch is inside hr =
     let size : length (own_part patch r) ≡ patch.own = omega (arith, length-take (start + patch.own - start) (drop start patch.values.items), enough, count) in
     ext_get_or (pos 0) (own_part patch r) (map f (range_with_len (1 + block_start nx px p) patch.own)) (size ∙ sym (length-map-range_with_len f (1 + block_start nx px p) patch.own))
     (λ i hi.
-        let in_own : i < patch.own = omega (arith, size, hi) in
-        let place : start + i ≡ r * patch.width + (patch.west + i) = omega arith in
-        get_or-take (start + patch.own - start) (drop start patch.values.items) i (pos 0) (omega (arith, count, in_own))
-        ∙ get_or-drop start patch.values.items i (pos 0)
-        ∙ ap (λ k. get_or patch.values.items k (pos 0)) place
-        ∙ inside r (patch.west + i) hr (omega arith) (omega (arith, in_own))
-        ∙ sym (get_or-map-range_with_len f (1 + block_start nx px p) patch.own i (patch.from + (patch.west + i) + 1) (pos 0) in_own (omega (arith, is.block.west))))
+    let in_own : i < patch.own = omega (arith, size, hi) in
+    let place : start + i ≡ r * patch.width + (patch.west + i) = omega arith in
+    get_or-take (start + patch.own - start) (drop start patch.values.items) i (pos 0) (omega (arith, count, in_own))
+    ∙ get_or-drop start patch.values.items i (pos 0)
+    ∙ ap (λ k. get_or patch.values.items k (pos 0)) place
+    ∙ inside r (patch.west + i) hr (omega arith) (omega (arith, in_own))
+    ∙ sym (get_or-map-range_with_len f (1 + block_start nx px p) patch.own i (patch.from + (patch.west + i) + 1) (pos 0) in_own (omega (arith, is.block.west))))
 
 -- a row, with one patch more
 pub row_more : (nx ny px p r : ℕ) (own : ℕ → ℕ → ℕ) (patch : Patch) (values old new : List ℤ) → IsPatch nx ny px p patch → Inside own ny patch → r < ny

@@ -48,11 +48,11 @@ pub mean_is : (grid : ℕ → ℕ → ℕ) (values : List ℤ) (w h from r c : �
 mean_is grid values w h from r c same p q s t =
     let here : size_at values w r c ≡ grid (r + 1) (from + c + 1) = ap unsigned_abs (same r c (omega arith) (omega arith)) in
     let west : size_at values w r (c - 1) ≡ grid (r + 1) (from + c + 1 - 1) =
-        let e : from + (c - 1) + 1 ≡ from + c + 1 - 1 = omega arith in ap unsigned_abs (same r (c - 1) (omega arith) (omega arith)) ∙ ap (grid (r + 1)) e in
+    let e : from + (c - 1) + 1 ≡ from + c + 1 - 1 = omega arith in ap unsigned_abs (same r (c - 1) (omega arith) (omega arith)) ∙ ap (grid (r + 1)) e in
     let east : size_at values w r (c + 1) ≡ grid (r + 1) (from + c + 1 + 1) =
-        let e : from + (c + 1) + 1 ≡ from + c + 1 + 1 = omega arith in ap unsigned_abs (same r (c + 1) (omega arith) q) ∙ ap (grid (r + 1)) e in
+    let e : from + (c + 1) + 1 ≡ from + c + 1 + 1 = omega arith in ap unsigned_abs (same r (c + 1) (omega arith) q) ∙ ap (grid (r + 1)) e in
     let south : size_at values w (r - 1) c ≡ grid (r + 1 - 1) (from + c + 1) =
-        let e : (r - 1) + 1 ≡ r + 1 - 1 = omega arith in ap unsigned_abs (same (r - 1) c (omega arith) (omega arith)) ∙ ap (λ j. grid j (from + c + 1)) e in
+    let e : (r - 1) + 1 ≡ r + 1 - 1 = omega arith in ap unsigned_abs (same (r - 1) c (omega arith) (omega arith)) ∙ ap (λ j. grid j (from + c + 1)) e in
     let north : size_at values w (r + 1) c ≡ grid (r + 1 + 1) (from + c + 1) = ap unsigned_abs (same (r + 1) c t (omega arith)) in
     cc
 

@@ -10,6 +10,7 @@ use wf_cdf::{place_vars, write_header};
 use wf_model::{Att, Bytes, Dim, Header, List, Var};
 
 const CHAR: u8 = 2;
+
 const INT: u8 = 4;
 
 fn bytes(alloc: Global, text: &[u8]) -> Result<Bytes, AllocError>

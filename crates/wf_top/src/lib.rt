@@ -15,3 +15,6 @@ mod words;
 mod writes;
 
 pub use top::tool_main;
+
+#[cfg(test)]
+mod tests;

@@ -32,7 +32,12 @@ fn run_demo<S: Store>(alloc: Global, demo: &Demo, store: &mut S) -> Result<Strin
         Ok(header) => header,
         Err(_) => return Err(IoError::Memory),
     };
-    let mut patches = match Patches::new(alloc, demo.nx as usize, demo.ny as usize, demo.px as usize) {
+    let mut patches = match Patches::new(
+        alloc,
+        demo.nx as usize,
+        demo.ny as usize,
+        demo.px as usize,
+    ) {
         Ok(patches) => patches,
         Err(_) => return Err(IoError::Memory),
     };

@@ -69,7 +69,13 @@ fn demo_numbers(x: &[u8], y: &[u8], n: &[u8], p: &[u8], each: bool) -> Option<De
     let ny = word_number(1, 200, y)?;
     let steps = word_number(0, 100, n)?;
     let px = word_number(1, 256, p)?;
-    Some(Demo { nx, ny, steps, px, each })
+    Some(Demo {
+        nx,
+        ny,
+        steps,
+        px,
+        each,
+    })
 }
 
 /// The demo that the words ask for, `demo NX NY STEPS PX [--memory]`, or none where they are no such words.

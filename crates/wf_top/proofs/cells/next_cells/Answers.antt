@@ -13,13 +13,13 @@ row_made : (values before after : List ℤ) (w h r c : ℕ) → 0 < r → r + 1 
     → cell after w r c ≡ next_at values w h r c
 row_made values before after w h r c p q k inside ends first same =
     elim (cases_lt 0 c) [
-      inl low ↦ elim (cases_lt (c + 1) w) [
-        inl high ↦ inside c low high ∙ sym (next_inside values w h r c low high p q)
-      | inr high ↦ ends c k high ∙ same c k ∙ sym (next_border values w h r c (λ _ x _ _. omega arith))
+      | inl low ↦ elim (cases_lt (c + 1) w) [
+        | inl high ↦ inside c low high ∙ sym (next_inside values w h r c low high p q)
+        | inr high ↦ ends c k high ∙ same c k ∙ sym (next_border values w h r c (λ _ x _ _. omega arith))
       ]
-    | inr low ↦
-        let e : 0 ≡ c = omega arith in
-        ap (λ i. cell after w r i) (sym e) ∙ first ∙ ap (λ i. cell before w r i) e ∙ same c k ∙ sym (next_border values w h r c (λ x _ _ _. omega arith))
+      | inr low ↦
+          let e : 0 ≡ c = omega arith in
+          ap (λ i. cell after w r i) (sym e) ∙ first ∙ ap (λ i. cell before w r i) e ∙ same c k ∙ sym (next_border values w h r c (λ x _ _ _. omega arith))
     ]
 
 pub loop-r-preserved : goal.loop-r-preserved
@@ -39,6 +39,6 @@ loop-r-preserved c =
 
 pub returns : goal.returns
 returns c = λ s q hs hq. elim (cases_lt s c.loop-r.r) [
-    inl below ↦ c.loop-r.invariant.done s q below hq
+  | inl below ↦ c.loop-r.invariant.done s q below hq
   | inr past ↦ c.loop-r.invariant.rest s q past hs hq ∙ sym (next_border c.args.values.now c.args.width c.args.rows s q (λ _ _ _ t. omega (arith, c.loop-r-test.false)))
-  ]
+]

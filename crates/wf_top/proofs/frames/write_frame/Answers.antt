@@ -20,14 +20,28 @@ byte_sum-requires-in-Ok-write_record g c =
 pub overflow_add-result : goal.overflow_add-result
 overflow_add-result g c =
     let all = c.args.patches.now in
-    omega (arith, c.byte_sum.ensures.bound, c.byte_sum-in-Ok-write_record.ensures.bound, ap length (c.deref-in-Ok-write_record.ensures.value ∙ c.in-Ok.ensures.time), time_length c.args.step,
-        ap length (c.deref-in-Ok-write_record-2.ensures.value ∙ c.in-Ok.ensures.slab), slab_small all.nx all.ny c.args.step c.requires.domain.columns c.requires.domain.rows)
+    omega (
+      arith,
+      c.byte_sum.ensures.bound,
+      c.byte_sum-in-Ok-write_record.ensures.bound,
+      ap length (c.deref-in-Ok-write_record.ensures.value ∙ c.in-Ok.ensures.time),
+      time_length c.args.step,
+      ap length (c.deref-in-Ok-write_record-2.ensures.value ∙ c.in-Ok.ensures.slab),
+      slab_small all.nx all.ny c.args.step c.requires.domain.columns c.requires.domain.rows,
+    )
 
 pub returns-in-Ok-write_record-clause-bound : goal.returns-in-Ok-write_record-clause-bound
 returns-in-Ok-write_record-clause-bound g c =
     let all = c.args.patches.now in
-    omega (arith, c.byte_sum.ensures.bound, c.byte_sum-in-Ok-write_record.ensures.bound, ap length (c.deref-in-Ok-write_record.ensures.value ∙ c.in-Ok.ensures.time), time_length c.args.step,
-        ap length (c.deref-in-Ok-write_record-2.ensures.value ∙ c.in-Ok.ensures.slab), slab_small all.nx all.ny c.args.step c.requires.domain.columns c.requires.domain.rows)
+    omega (
+      arith,
+      c.byte_sum.ensures.bound,
+      c.byte_sum-in-Ok-write_record.ensures.bound,
+      ap length (c.deref-in-Ok-write_record.ensures.value ∙ c.in-Ok.ensures.time),
+      time_length c.args.step,
+      ap length (c.deref-in-Ok-write_record-2.ensures.value ∙ c.in-Ok.ensures.slab),
+      slab_small all.nx all.ny c.args.step c.requires.domain.columns c.requires.domain.rows,
+    )
 
 pub returns-in-Ok-write_record-clause-there : goal.returns-in-Ok-write_record-clause-there
 returns-in-Ok-write_record-clause-there g c =

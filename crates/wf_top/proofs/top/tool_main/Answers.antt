@@ -17,5 +17,5 @@ pub returns-in-Some : goal.returns-in-Some
 returns-in-Some g c =
     let words = map string_bytes c.args.words.now in
     subst (λ (a : Answer). Ended a (g.S.Store.files c.args.store.now) (g.S.Store.files c.end_demo.new.store) (g.S.Store.faults c.args.store.now) (g.S.Store.faults c.end_demo.new.store) (g.S.Store.failed c.end_demo.new.store)
-        (λ status text. Said status text (g.O.Sink.taken c.args.out.now) (g.O.Sink.taken c.end_demo.new.out) (g.O.Sink.faults c.args.out.now) (g.O.Sink.faults c.end_demo.new.out) c.end_demo.result))
+    (λ status text. Said status text (g.O.Sink.taken c.args.out.now) (g.O.Sink.taken c.end_demo.new.out) (g.O.Sink.faults c.args.out.now) (g.O.Sink.faults c.end_demo.new.out) c.end_demo.result))
     (asked_is words c.in-Some.demo c.in-Some.ensures.demo) c.end_demo.ensures

@@ -10,4 +10,4 @@ returns-in-Err-clause-err g c = stopped_one (create c.args.name.now) (append c.a
 pub returns-in-Ok-clause-err : goal.returns-in-Ok-clause-err
 returns-in-Ok-clause-err g c =
     on_err_weaker c.append.result (λ told. stopped_right (create c.args.name.now ∷ []) (append c.args.name.now c.args.header.now ∷ []) (g.S.Store.files c.args.store.now) (g.S.Store.files c.create.new.self) (g.S.Store.files c.append.new.self)
-        c.in-Ok.ensures.ok (stopped_one (append c.args.name.now c.args.header.now) [] (g.S.Store.files c.create.new.self) (g.S.Store.files c.append.new.self) told)) c.append.ensures.err
+    c.in-Ok.ensures.ok (stopped_one (append c.args.name.now c.args.header.now) [] (g.S.Store.files c.create.new.self) (g.S.Store.files c.append.new.self) told)) c.append.ensures.err

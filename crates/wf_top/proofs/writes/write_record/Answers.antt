@@ -26,4 +26,4 @@ returns-in-Ok-append-clause-err g c =
     let third = g.S.Store.files c.append-2.new.self in
     let last = g.S.Store.files c.write_at.new.self in
     on_err_weaker c.write_at.result (λ told. stopped_right (time ∷ slab ∷ []) (count ∷ []) first third last
-        (ran_then (time ∷ []) (slab ∷ []) first second third c.in-Ok.ensures.ok c.in-Ok-append.ensures.ok) (stopped_one count [] third last told)) c.write_at.ensures.err
+    (ran_then (time ∷ []) (slab ∷ []) first second third c.in-Ok.ensures.ok c.in-Ok-append.ensures.ok) (stopped_one count [] third last told)) c.write_at.ensures.err

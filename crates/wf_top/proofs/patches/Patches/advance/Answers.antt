@@ -13,9 +13,11 @@ step_each-requires-clause-grid c =
     let n = c.requires.grid.0 in
     let m = c.requires.grid.1 in
     let g = demo_value old.nx old.ny n in
-    let h = demo_value old.nx old.ny m in
-    (n, grid_along old east n n (size_then old west east c.exchange_west.ensures.size c.exchange_east.ensures.size)
-        (c.exchange_east.ensures.exchanged g g h (c.exchange_west.ensures.exchanged g h h c.requires.grid.2)))
+    let h = demo_value old.nx old.ny m in (
+      n,
+      grid_along old east n n (size_then old west east c.exchange_west.ensures.size c.exchange_east.ensures.size)
+          (c.exchange_east.ensures.exchanged g g h (c.exchange_west.ensures.exchanged g h h c.requires.grid.2)),
+    )
 
 pub returns-clause-stepped : goal.returns-clause-stepped
 returns-clause-stepped c = λ n m held.
@@ -25,4 +27,4 @@ returns-clause-stepped c = λ n m held.
     let g = demo_value old.nx old.ny n in
     let h = demo_value old.nx old.ny m in
     c.step_each.ensures.stepped n (grid_along old east n n (size_then old west east c.exchange_west.ensures.size c.exchange_east.ensures.size)
-        (c.exchange_east.ensures.exchanged g g h (c.exchange_west.ensures.exchanged g h h held)))
+    (c.exchange_east.ensures.exchanged g g h (c.exchange_west.ensures.exchanged g h h held)))

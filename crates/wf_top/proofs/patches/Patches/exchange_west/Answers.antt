@@ -17,8 +17,8 @@ loop-p-preserved c =
       hold = λ own west east h.
           up_to_more p own own east start old new c.take_from_west.ensures.size c.take_from_west.ensures.others
           (λ other. c.take_from_west.ensures.taken own west east other
-              ((c.loop-p.invariant.hold own west east h).done (p - 1) other (omega (arith, c.loop-p.auto.p))).inside
-              (at_start p p own west east own own east start old c.loop-p.invariant.size (c.loop-p.invariant.hold own west east h) h (omega arith) (omega (arith, c.loop-p.invariant.size.count)) other))
+          ((c.loop-p.invariant.hold own west east h).done (p - 1) other (omega (arith, c.loop-p.auto.p))).inside
+          (at_start p p own west east own own east start old c.loop-p.invariant.size (c.loop-p.invariant.hold own west east h) h (omega arith) (omega (arith, c.loop-p.invariant.size.count)) other))
           (c.loop-p.invariant.hold own west east h);
     }
 

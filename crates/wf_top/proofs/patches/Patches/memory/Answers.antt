@@ -29,9 +29,9 @@ returns-clause-memory c = λ d e.
     let holds = subst (λ x. Holds d.ny (demo_value x d.ny d.steps) (demo_value x d.ny (d.steps - 1)) (demo_value x d.ny (d.steps - 1)) patch) (sym e.nx) h1 in
     let cells : patch.width * all.ny ≡ length (held_columns d p) * d.ny = ap (λ y. patch.width * y) (sym e.ny) ∙ cells_are d p patch is in
     let total : c.cell_sum.result ≡ sum_by (λ k. column_sum d.nx d.ny k.0 k.1) (held_columns d p) =
-        c.cell_sum.ensures.value
-        ∙ ap (λ (v : List ℤ). sum_by (λ i. sum_by (λ r. size_at v patch.width r i) (range_with_len 0 all.ny)) (range_with_len 0 patch.width)) c.deref.ensures.value
-        ∙ ap (λ y. sum_by (λ i. sum_by (λ r. size_at patch.values.items patch.width r i) (range_with_len 0 y)) (range_with_len 0 patch.width)) (sym e.ny)
-        ∙ sum_is d p patch is holds in
+    c.cell_sum.ensures.value
+    ∙ ap (λ (v : List ℤ). sum_by (λ i. sum_by (λ r. size_at v patch.width r i) (range_with_len 0 all.ny)) (range_with_len 0 patch.width)) c.deref.ensures.value
+    ∙ ap (λ y. sum_by (λ i. sum_by (λ r. size_at patch.values.items patch.width r i) (range_with_len 0 y)) (range_with_len 0 patch.width)) (sym e.ny)
+    ∙ sum_is d p patch is holds in
     let line : ℕ → ℕ → MemoryLine = λ x y. record { domain = 1; patch = p; cells = x; sum = pos y } in
     ap (λ x. line x (sum_by (λ k. column_sum d.nx d.ny k.0 k.1) (held_columns d p))) (sym cells) ∙ ap (line (patch.width * all.ny)) (sym total)

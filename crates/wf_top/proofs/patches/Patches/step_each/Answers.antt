@@ -11,9 +11,11 @@ step_patch-requires-clause-grid c =
     let start = c.args.self.now in
     let old = c.loop-p.self in
     let g = demo_value start.nx start.ny n in
-    let after = demo_value start.nx start.ny (n + 1) in
-    (n, λ other. steps_along start old n n c.loop-p.invariant.size _
-        (at_start c.loop-p.p c.loop-p.p g g g after g g start old c.loop-p.invariant.size (c.loop-p.invariant.hold n c.requires.grid.1) c.requires.grid.1 (omega arith) (omega (arith, c.loop-p.invariant.size.count)) other))
+    let after = demo_value start.nx start.ny (n + 1) in (
+      n,
+      λ other. steps_along start old n n c.loop-p.invariant.size _
+          (at_start c.loop-p.p c.loop-p.p g g g after g g start old c.loop-p.invariant.size (c.loop-p.invariant.hold n c.requires.grid.1) c.requires.grid.1 (omega arith) (omega (arith, c.loop-p.invariant.size.count)) other),
+    )
 
 pub loop-p-preserved : goal.loop-p-preserved
 loop-p-preserved c =
@@ -29,7 +31,7 @@ loop-p-preserved c =
           let after = demo_value start.nx start.ny (n + 1) in
           up_to_more p after g g start old new c.step_patch.ensures.size c.step_patch.ensures.others
           (λ other. steps_back start old (n + 1) n c.loop-p.invariant.size _ (c.step_patch.ensures.stepped n other
-              (steps_along start old n n c.loop-p.invariant.size _ (at_start p p g g g after g g start old c.loop-p.invariant.size (c.loop-p.invariant.hold n h) h (omega arith) (omega (arith, c.loop-p.invariant.size.count)) other))))
+          (steps_along start old n n c.loop-p.invariant.size _ (at_start p p g g g after g g start old c.loop-p.invariant.size (c.loop-p.invariant.hold n h) h (omega arith) (omega (arith, c.loop-p.invariant.size.count)) other))))
           (c.loop-p.invariant.hold n h);
     }
 

@@ -24,9 +24,9 @@ returns-clause-domain c =
     domain_with all (with_items all.patches after) (with_items all.column row) c.requires.domain (ap length whole ∙ size) (ap length row_whole ∙ row_size)
     (subst (Each (IsPatch all.nx all.ny (length before))) (sym whole)
     (each_kept all.nx all.ny (length before) c.args.p before after size (omega arith)
-        (λ q other ne. c.pass_column.ensures.others q other ne ∙ ap (λ (xs : List Patch). get_or xs q other) lent)
-        (λ other. subst (λ (xs : List Patch). KeepsShape (get_or xs c.args.p other) (get_or after c.args.p other)) lent (c.pass_column.ensures.shape other))
-        c.requires.domain.each))
+    (λ q other ne. c.pass_column.ensures.others q other ne ∙ ap (λ (xs : List Patch). get_or xs q other) lent)
+    (λ other. subst (λ (xs : List Patch). KeepsShape (get_or xs c.args.p other) (get_or after c.args.p other)) lent (c.pass_column.ensures.shape other))
+    c.requires.domain.each))
 
 pub returns-clause-taken : goal.returns-clause-taken
 returns-clause-taken c = λ own west east other inside holds.
@@ -54,7 +54,7 @@ returns-clause-taken c = λ own west east other inside holds.
     let took4 = subst (λ (x : Patch). Took (x.west + x.own) all.ny (column_of neighbour neighbour.west) patch made) same_patch took3 in
     subst (λ (xs : List Patch). Holds all.ny own west own (get_or xs p other)) (sym whole)
     (took_east all.nx all.ny (block_start all.nx px p) (block_start all.nx px (p + 1)) own west east (column_of neighbour neighbour.west) patch made is.block
-        (end_before all.nx px p c.requires.domain.some c.requires.domain.most c.requires.place) shape took4
-        (λ r hr. inside r neighbour.west hr (omega arith) (omega (arith, beside.block.west, beside.block.own, beside.block.some))
-            ∙ ap (λ i. pos (own (r + 1) i)) (first_column all.nx all.ny px p neighbour patch beside is))
-        holds)
+    (end_before all.nx px p c.requires.domain.some c.requires.domain.most c.requires.place) shape took4
+    (λ r hr. inside r neighbour.west hr (omega arith) (omega (arith, beside.block.west, beside.block.own, beside.block.some))
+    ∙ ap (λ i. pos (own (r + 1) i)) (first_column all.nx all.ny px p neighbour patch beside is))
+    holds)

@@ -24,9 +24,9 @@ returns-clause-domain c =
     domain_with all (with_items all.patches after) (with_items all.column row) c.requires.domain (ap length whole ∙ size) (ap length row_whole ∙ row_size)
     (subst (Each (IsPatch all.nx all.ny (length before))) (sym whole)
     (each_kept all.nx all.ny (length before) c.args.p before after size (omega arith)
-        (λ q other ne. c.pass_column.ensures.others q other ne ∙ ap (λ (xs : List Patch). get_or xs q other) lent)
-        (λ other. subst (λ (xs : List Patch). KeepsShape (get_or xs c.args.p other) (get_or after c.args.p other)) lent (c.pass_column.ensures.shape other))
-        c.requires.domain.each))
+    (λ q other ne. c.pass_column.ensures.others q other ne ∙ ap (λ (xs : List Patch). get_or xs q other) lent)
+    (λ other. subst (λ (xs : List Patch). KeepsShape (get_or xs c.args.p other) (get_or after c.args.p other)) lent (c.pass_column.ensures.shape other))
+    c.requires.domain.each))
 
 pub returns-clause-taken : goal.returns-clause-taken
 returns-clause-taken c = λ own west east other inside holds.
@@ -53,7 +53,7 @@ returns-clause-taken c = λ own west east other inside holds.
     let took3 = subst (λ (x : Patch). Took 0 all.ny (column_of neighbour (x.west + x.own - 1)) patch made) same_neighbour took2 in
     subst (λ (xs : List Patch). Holds all.ny own own east (get_or xs p other)) (sym whole)
     (took_west all.nx all.ny (block_start all.nx px p) (block_start all.nx px (p + 1)) own west east (column_of neighbour last) patch made is.block
-        (block_after all.nx px p c.requires.domain.some c.requires.domain.most c.requires.place.0) shape took3
-        (λ r hr. inside r last hr (omega (arith, beside.block.from, beside.block.west, beside.block.own, beside.block.some)) (omega (arith, beside.block.west, beside.block.own, beside.block.some))
-            ∙ ap (λ i. pos (own (r + 1) i)) (last_column all.nx all.ny px p neighbour patch c.requires.place.0 c.requires.domain.some c.requires.domain.most beside is))
-        holds)
+    (block_after all.nx px p c.requires.domain.some c.requires.domain.most c.requires.place.0) shape took3
+    (λ r hr. inside r last hr (omega (arith, beside.block.from, beside.block.west, beside.block.own, beside.block.some)) (omega (arith, beside.block.west, beside.block.own, beside.block.some))
+    ∙ ap (λ i. pos (own (r + 1) i)) (last_column all.nx all.ny px p neighbour patch c.requires.place.0 c.requires.domain.some c.requires.domain.most beside is))
+    holds)
