@@ -1,3 +1,2 @@
 pub mod JoinedLines
 pub mod FactorRoom
-pub mod StoreRunLaws

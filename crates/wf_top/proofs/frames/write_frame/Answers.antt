@@ -2,7 +2,7 @@ use Rattle.std.proofs.Common.{arith, sym, ap, subst, ◌∙◌, ◌≡◌, ℕ, 
 use Rattle.wf_model.specs.Files.{StoreCall}
 use Rattle.wf_model.specs.Demo.{demo_frame}
 use Rattle.wf_model.specs.StoreRuns.{Ran, Stopped}
-use Rattle.wf_model.proofs.StoreRunLaws.{stopped_none}
+use Rattle.wf_top.proofs.StoreRunLaws.{stopped_none}
 use Rattle.wf_top.proofs.FrameLaws.{frame_is, header_after, slab_small, time_length}
 use Rattle.wf_top.proofs.frames.write_frame.Goals as goal
 
