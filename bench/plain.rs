@@ -93,11 +93,13 @@ fn main() {
             std::mem::swap(&mut old, &mut new);
         }
         let time = format!("2000-01-01_{:02}:{:02}:00\0", s / 60, s % 60);
-        record.clear();
-        for v in &old {
-            record.extend_from_slice(&v.to_be_bytes());
+        record.resize(4 * old.len(), 0);
+        for (bytes, value) in record.chunks_exact_mut(4).zip(&old) {
+            bytes.copy_from_slice(&value.to_be_bytes());
         }
-        sum += time.bytes().chain(record.iter().copied()).map(u64::from).sum::<u64>();
+        for bytes in [time.as_bytes(), &record] {
+            sum += bytes.iter().map(|b| u64::from(*b)).sum::<u64>();
+        }
         file.seek(SeekFrom::End(0)).unwrap();
         file.write_all(time.as_bytes()).unwrap();
         file.write_all(&record).unwrap();
