@@ -1,0 +1,5 @@
+pub mod LastByte
+pub mod LineEnds
+pub mod LogicalLines
+pub mod WordScan
+pub mod ReadingLemmas

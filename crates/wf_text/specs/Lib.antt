@@ -1,0 +1,3 @@
+pub mod TextError
+pub mod Physical
+pub mod Pending
