@@ -1,4 +1,0 @@
-pub mod Turns
-pub mod HeaderParts
-pub mod SlabSizes
-pub mod SlabValues
