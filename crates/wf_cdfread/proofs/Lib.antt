@@ -1,0 +1,4 @@
+pub mod Turns
+pub mod HeaderParts
+pub mod SlabSizes
+pub mod SlabValues
