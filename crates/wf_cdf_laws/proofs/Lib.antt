@@ -1,0 +1,4 @@
+pub mod Standing
+pub mod Fields
+pub mod Lists
+pub mod Headers
