@@ -10,6 +10,8 @@ ROUNDS = 30
 
 
 def seconds(command):
+    """The time of a run that makes its file anew. One that replaces a file which the run before left to the disk waits
+    for the disk, whichever program it is: 16 ms become 45, and plain Rust after plain Rust 57."""
     if os.path.exists(NAME):
         os.remove(NAME)
     start = time.perf_counter()
