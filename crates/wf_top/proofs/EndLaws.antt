@@ -1,5 +1,5 @@
 -- The answers of the top call, and how it ends.
-use Rattle.std.proofs.Common.{◌≡◌, ◌⊎◌, ℕ, ◌<◌, ◌≤◌, Bool, true, false, nat_lt, List, [], ◌++◌, Option, Some, None, refl, sym, ap, ◌∙◌, subst, arith, inl, inr}
+use Rattle.std.proofs.Common.{◌≡◌, ℕ, ◌<◌, ◌≤◌, true, false, nat_lt, List, ◌++◌, Option, Some, None, refl, sym, subst, arith, inl, inr}
 use Rattle.std.proofs.lemmas.Bool.Decides.{nat_tests}
 use Rattle.wf_io.specs.Files.{Rose}
 use Rattle.wf_model.specs.declared.demo.Demo.{Demo}
@@ -9,9 +9,9 @@ use Rattle.wf_model.specs.StoreRuns.{Ran, Stopped}
 use Rattle.wf_model.specs.Refusals.{layout_refusal}
 use Rattle.wf_model.specs.Answer.{Answer, refused, summary_line, memory_text, how}
 use Rattle.wf_model.specs.Demo.{demo_file, demo_of, demo_calls, demo_summary, demo_memories, demo_answer, usage, tool_answer}
-use Rattle.wf_top.proofs.StoreRunLaws.{ran_none, stopped_none}
 use Rattle.wf_top.specs.Told.{file_calls}
-use Rattle.wf_top.specs.Ends.{Ended, AnsweredWhole, StoreFailed, MemoryLacked, store_text, memory_text as lacking_text}
+use Rattle.wf_top.specs.Failed.{Failed}
+use Rattle.wf_top.specs.Ends.{Ended, store_text, memory_text as lacking_text}
 
 -- ---- answers
 
@@ -42,9 +42,9 @@ module _ (fs gs : Option Files) (before after : ℕ) (failed : List ℕ) (Says :
   ended_whole a b text is r t s = subst (λ (x : Answer). Ended x fs gs before after failed Says) is (inl (record { files = r; said = subst (Says a.status) t s }))
 
   -- a store call failed
-  pub ended_failed : (a b : Answer) → a ≡ b → Rose before after → failed ≡ demo_file → Stopped a.calls fs gs → Says 9 (store_text demo_file) → Ended b fs gs before after failed Says
+  pub ended_failed : (a b : Answer) → a ≡ b → Rose before after → failed ≡ demo_file → Failed a.calls demo_file fs gs → Says 9 (store_text demo_file) → Ended b fs gs before after failed Says
   ended_failed a b is rose name r s =
-      subst (λ (x : Answer). Ended x fs gs before after failed Says) is (inr (inl (record { counted = rose; name = name; files = r; said = subst (λ (n : List ℕ). Says 9 (store_text n)) (sym name) s })))
+      subst (λ (x : Answer). Ended x fs gs before after failed Says) is (inr (inl (record { counted = rose; name = name; files = subst (λ (n : List ℕ). Failed a.calls n fs gs) (sym name) r; said = subst (λ (n : List ℕ). Says 9 (store_text n)) (sym name) s })))
 
   -- memory was wanting
   pub ended_lacking : (a b : Answer) → a ≡ b → Stopped a.calls fs gs → Says 10 lacking_text → Ended b fs gs before after failed Says

@@ -1,5 +1,5 @@
 -- A frame: its time, its calls, and what they leave of the demo's file.
-use Rattle.std.proofs.Common.{◌≡◌, ℕ, zero, suc, pos, ◌+◌, ◌-◌, ◌*◌, ◌/◌, ◌%◌, ◌<◌, ◌≤◌, List, [], ◌∷◌, ◌++◌, length, take, drop, flat_map, map, Option, Some, None, IsSome, unwrap_or, true, ℤ, sum, sum_by, refl, sym, ap, ◌∙◌, subst, arith, length-append, length-take, length-drop, append-nil, codes}
+use Rattle.std.proofs.Common.{◌≡◌, ℕ, zero, suc, pos, ◌+◌, ◌-◌, ◌*◌, ◌/◌, ◌%◌, ◌<◌, ◌≤◌, List, [], ◌∷◌, ◌++◌, length, take, drop, flat_map, map, Option, Some, IsSome, unwrap_or, true, ℤ, sum_by, refl, sym, ap, ◌∙◌, subst, arith, length-append, length-take, length-drop, append-nil, codes}
 use Rattle.std.specs.Str.{bytes_eq}
 use Rattle.std.specs.List.{range_with_len}
 use Rattle.std.proofs.lemmas.Slice.Eq.{bytes_eq-Decides}
@@ -13,7 +13,8 @@ use Rattle.wf_model.specs.Bytes.{four_bytes, slab_bytes, header_bytes, list_byte
 use Rattle.wf_model.specs.Files.{Files, StoreCall, create, append, write_at, with_file, bytes_at, patched, files_after_all}
 use Rattle.wf_model.specs.StoreRuns.{Ran, Stopped}
 use Rattle.wf_model.specs.Demo.{demo_file, demo_time, demo_value, demo_grid, demo_frame, demo_frames, frame_sum}
-use Rattle.wf_top.proofs.StoreRunLaws.{told_back, ran_then, stopped_left, stopped_right, stopped_whole}
+use Rattle.wf_top.specs.Failed.{Failed}
+use Rattle.wf_top.proofs.StoreRunLaws.{told_back, ran_then, stopped_left, stopped_right, failed_left, failed_right}
 use Rattle.wf_top.specs.Told.{HasHeader}
 use Rattle.wf_top.proofs.RangeLaws.{flat_map_split, sum_more}
 
@@ -141,6 +142,18 @@ stopped_at nx ny n m a b h p =
 pub stopped_frame : (nx ny n m : ℕ) (a b c : Option Files) → n < m → Ran (demo_frames nx ny n) a b → Stopped (demo_frame nx ny n) b c → Stopped (demo_frames nx ny m) a c
 stopped_frame nx ny n m a b c h p q =
     stopped_at nx ny (n + 1) m a c (omega arith) (subst (λ (cs : List StoreCall). Stopped cs a c) (sym (frames_step nx ny n)) (stopped_right (demo_frames nx ny n) (demo_frame nx ny n) a b c p q))
+
+-- a run in which a call failed before its last frame
+failed_at : (nx ny n m : ℕ) (a b : Option Files) → n ≤ m → Failed (demo_frames nx ny n) demo_file a b → Failed (demo_frames nx ny m) demo_file a b
+failed_at nx ny n m a b h p =
+    let e : n + (m - n) ≡ m = omega arith in
+    subst (λ k. Failed (demo_frames nx ny k) demo_file a b) e
+    (subst (λ (cs : List StoreCall). Failed cs demo_file a b) (sym (frames_more nx ny n (m - n))) (failed_left (demo_frames nx ny n) (flat_map (demo_frame nx ny) (range_with_len (0 + n) (m - n))) demo_file a b p))
+
+-- a frame of which a call failed
+pub failed_frame : (nx ny n m : ℕ) (a b c : Option Files) → n < m → Ran (demo_frames nx ny n) a b → Failed (demo_frame nx ny n) demo_file b c → Failed (demo_frames nx ny m) demo_file a c
+failed_frame nx ny n m a b c h p q =
+    failed_at nx ny (n + 1) m a c (omega arith) (subst (λ (cs : List StoreCall). Failed cs demo_file a c) (sym (frames_step nx ny n)) (failed_right (demo_frames nx ny n) (demo_frame nx ny n) demo_file a b c p q))
 
 -- the frames of as many points
 pub frame_along : (nx ny mx my n : ℕ) → mx ≡ nx → my ≡ ny → demo_frame mx my n ≡ demo_frame nx ny n

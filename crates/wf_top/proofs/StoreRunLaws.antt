@@ -1,9 +1,11 @@
 -- One run of store calls after another, and runs that a failed call stopped.
-use Rattle.std.proofs.Common.{◌≡◌, ◌⊎◌, ℕ, suc, ◌+◌, ◌≤◌, List, [], ◌∷◌, ◌++◌, length, take, drop, Option, Some, None, refl, sym, ap, ◌∙◌, subst, arith, length-append, inl, inr}
+use Rattle.std.proofs.Common.{◌≡◌, ◌⊎◌, ℕ, suc, ◌≤◌, List, [], ◌∷◌, ◌++◌, length, take, drop, Option, Some, None, Result, Ok, Err, OnErr, refl, sym, ap, ◌∙◌, subst, arith, length-append, inl, inr}
+use Rattle.std.specs.Result.{IsErrOf}
 use Rattle.std.proofs.lemmas.List.{take-append-le, drop-append-le}
 use Rattle.std.proofs.Math.Seq.{take-length}
 use Rattle.wf_model.specs.Files.{Files, StoreCall, after_call, files_after, files_after_all}
 use Rattle.wf_model.specs.StoreRuns.{Told, MayLeave, FirstMayLeave, IsPrefix, Ran, Stopped}
+use Rattle.wf_top.specs.Failed.{file_of, FirstFails, IsFailed, Failed}
 
 -- ---- what is told
 
@@ -108,3 +110,58 @@ stopped_whole cs a b p = told_weaker a b (λ m n. n ≡ files_after_all m cs) (I
 -- stopped by the first call, which failed
 pub stopped_one : (c : StoreCall) (cs : List StoreCall) (a b : Option Files) → Told a b (MayLeave c) → Stopped (c ∷ cs) a b
 stopped_one c cs a b p = told_weaker a b (MayLeave c) (IsPrefix (c ∷ cs)) p (prefix_first c cs)
+
+-- ---- runs of which a call failed
+
+-- what an error leaves, at that error
+pub at_error : {X E : Type 0} {P : Type 0} (r : Result X E) (e : E) → r ≡ Err e → OnErr r P → P
+at_error {X} {E} {P} r e is h = subst (λ (x : Result X E). OnErr x P) is h
+
+error_or : {X E : Type 0} → Result X E → E → E
+error_or (Ok x) e = e
+error_or (Err f) e = f
+
+-- an error is the same one, whatever the value would have been
+pub same_error : {X Y E : Type 0} (e f : E) → IsErrOf {T = X} {E = E} (Err e) f → IsErrOf {T = Y} {E = E} (Err e) f
+unfolding error_or
+same_error {X} {Y} {E} e f p = ap (λ (r : Result X E). Err (error_or r e)) p
+
+-- the first call failed
+failed_first : (c : StoreCall) (cs : List StoreCall) (name : List ℕ) (m n : Files) → file_of c ≡ name → MayLeave c m n → IsFailed (c ∷ cs) name m n
+unfolding files_after
+failed_first c cs name m n on l = record { done = 0; within = omega arith; left = (on, l) }
+
+-- behind a call that was made
+failed_more : (c : StoreCall) (cs : List StoreCall) (name : List ℕ) (m n : Files) → IsFailed cs name (after_call m c) n → IsFailed (c ∷ cs) name m n
+unfolding files_after
+failed_more c cs name m n p = record { done = suc p.done; within = omega (arith, p.within); left = p.left }
+
+-- behind calls that were made
+failed_behind : (cs ds : List StoreCall) (name : List ℕ) (m n : Files) → IsFailed ds name (files_after_all m cs) n → IsFailed (cs ++ ds) name m n
+failed_behind [] ds name m n p = p
+failed_behind (c ∷ cs) ds name m n p = failed_more c (cs ++ ds) name m n (failed_behind cs ds name (after_call m c) n p)
+
+first_fails_of_more : (cs ds : List StoreCall) (name : List ℕ) (m n : Files) → FirstFails name cs m n → FirstFails name (cs ++ ds) m n
+first_fails_of_more [] ds name m n l = absurd l
+first_fails_of_more (c ∷ cs) ds name m n l = l
+
+fails_more : (cs ds : List StoreCall) (name : List ℕ) (m n : Files) (done : ℕ) → done ≤ length cs → FirstFails name (drop done cs) (files_after m cs done) n
+    → FirstFails name (drop done (cs ++ ds)) (files_after m (cs ++ ds) done) n
+unfolding files_after
+fails_more cs ds name m n done h l = rw (take-append-le, drop-append-le) (first_fails_of_more (drop done cs) ds name (files_after_all m (take done cs)) n l)
+
+-- among the first calls
+failed_before : (cs ds : List StoreCall) (name : List ℕ) (m n : Files) → IsFailed cs name m n → IsFailed (cs ++ ds) name m n
+failed_before cs ds name m n p = record { done = p.done; within = omega (arith, p.within, length-append cs ds); left = fails_more cs ds name m n p.done (omega (arith, p.within)) p.left }
+
+-- the first call of a run failed
+pub failed_one : (c : StoreCall) (cs : List StoreCall) (name : List ℕ) (a b : Option Files) → file_of c ≡ name → Told a b (MayLeave c) → Failed (c ∷ cs) name a b
+failed_one c cs name a b on p = told_weaker a b (MayLeave c) (IsFailed (c ∷ cs) name) p (λ m n l. failed_first c cs name m n on l)
+
+-- a call failed among the first ones
+pub failed_left : (cs ds : List StoreCall) (name : List ℕ) (a b : Option Files) → Failed cs name a b → Failed (cs ++ ds) name a b
+failed_left cs ds name a b p = told_weaker a b (IsFailed cs name) (IsFailed (cs ++ ds) name) p (failed_before cs ds name)
+
+-- a call failed behind calls that were made
+pub failed_right : (cs ds : List StoreCall) (name : List ℕ) (a b c : Option Files) → Ran cs a b → Failed ds name b c → Failed (cs ++ ds) name a c
+failed_right cs ds name a b c p q = told_then a b c (λ m n. n ≡ files_after_all m cs) (IsFailed ds name) (IsFailed (cs ++ ds) name) p q (λ m n k e f. failed_behind cs ds name m k (subst (λ x. IsFailed ds name x k) e f))

@@ -3,6 +3,7 @@ use Rattle.std.specs.Prelude.{◌≡◌, ◌⊎◌, ℕ, ◌≤◌, List, [], �
 use Rattle.wf_io.specs.Files.{Told, Rose}
 use Rattle.wf_model.specs.Files.{Files}
 use Rattle.wf_model.specs.StoreRuns.{Ran, Stopped}
+use Rattle.wf_top.specs.Failed.{Failed}
 use Rattle.wf_model.specs.Refusals.{line}
 use Rattle.wf_model.specs.Answer.{Answer}
 use Rattle.wf_model.specs.Demo.{demo_file}
@@ -53,11 +54,12 @@ pub record AnsweredWhole (answer : Answer) (old new : Option Files) (Says : ℕ 
   pub files : Ran answer.calls old new
   pub said : Says answer.status answer.text
 
--- a call failed, and the store counted it: it was the last call, its name is said, and the calls before it were made
+-- a call of the answer failed, on the file that is said, and the store counted it: it was the last call, and those before
+-- it were made
 pub record StoreFailed (answer : Answer) (old new : Option Files) (before after : ℕ) (failed : List ℕ) (Says : ℕ → List ℕ → Type 0) : Type 0 where
   pub counted : Rose before after
   pub name : failed ≡ demo_file
-  pub files : Stopped answer.calls old new
+  pub files : Failed answer.calls failed old new
   pub said : Says 9 (store_text failed)
 
 -- memory was wanting: a first part of the calls was made

@@ -1,5 +1,5 @@
 -- The numbers that a demo may have.
-use Rattle.std.specs.Prelude.{ℕ, ◌<◌, ◌≤◌}
+use Rattle.std.specs.Prelude.{◌<◌, ◌≤◌}
 use Rattle.wf_model.specs.declared.demo.Demo.{Demo}
 
 pub record InLimits (d : Demo) : Type 0 where

@@ -10,6 +10,7 @@ ghost use Rattle.wf_model.specs.Demo.{demo_file, demo_time, demo_grid, demo_fram
 ghost use Rattle.wf_model.specs.StoreRuns.{Ran, Stopped};
 ghost use Rattle.wf_top.specs.Domains.{IsDomain, SameSize, HoldGrid};
 ghost use Rattle.wf_top.specs.Told.{HasHeader, file_calls};
+ghost use Rattle.wf_top.specs.Failed.{Failed};
 
 use crate::patches::Patches;
 use crate::writes::{begin_file, write_record};
@@ -89,6 +90,7 @@ fn write_frame<S: Store>(
     ensures sum { IfOk result (λ s. s ≡ frame_sum patches.now.nx patches.now.ny step) }
     ensures bound { IfOk result (λ s. s ≤ 41000000) }
     ensures err { OnErr result (Stopped (demo_frame patches.now.nx patches.now.ny step) (S.files store.old) (S.files store.new)) }
+    ensures failed_call { IsErrOf result IoError.Fault → Failed (demo_frame patches.now.nx patches.now.ny step) demo_file (S.files store.old) (S.files store.new) }
     ensures faults { Counted (S.faults store.old) (S.faults store.new) result }
     ensures failed { IsErrOf result IoError.Fault → S.failed store.new ≡ demo_file }
 {
@@ -120,6 +122,7 @@ fn write_frames<S: Store>(
     ensures size { OnOk result (SameSize patches.old patches.new) }
     ensures grid { OnOk result (HoldGrid steps (steps - 1) patches.new) }
     ensures err { OnErr result (Stopped (demo_frames patches.old.nx patches.old.ny (steps + 1)) (S.files store.old) (S.files store.new)) }
+    ensures failed_call { IsErrOf result IoError.Fault → Failed (demo_frames patches.old.nx patches.old.ny (steps + 1)) demo_file (S.files store.old) (S.files store.new) }
     ensures faults { Counted (S.faults store.old) (S.faults store.new) result }
     ensures failed { IsErrOf result IoError.Fault → S.failed store.new ≡ demo_file }
 {
@@ -158,6 +161,7 @@ pub fn write_file<S: Store>(
     ensures size { OnOk result (SameSize patches.old patches.new) }
     ensures grid { OnOk result (HoldGrid steps (steps - 1) patches.new) }
     ensures err { OnErr result (Stopped (file_calls patches.old.nx patches.old.ny steps) (S.files store.old) (S.files store.new)) }
+    ensures failed_call { IsErrOf result IoError.Fault → Failed (file_calls patches.old.nx patches.old.ny steps) demo_file (S.files store.old) (S.files store.new) }
     ensures faults { Counted (S.faults store.old) (S.faults store.new) result }
     ensures failed { IsErrOf result IoError.Fault → S.failed store.new ≡ demo_file }
 {

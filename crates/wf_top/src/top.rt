@@ -6,6 +6,7 @@ ghost use Rattle.wf_model.specs.StoreRuns.{Ran, Stopped};
 ghost use Rattle.wf_model.specs.Answer.{summary_line, memory_text, how};
 ghost use Rattle.wf_model.specs.Demo.{demo_file, demo_calls, demo_summary, demo_memories, demo_answer, tool_answer};
 ghost use Rattle.wf_top.specs.Limits.{InLimits};
+ghost use Rattle.wf_top.specs.Failed.{Failed};
 ghost use Rattle.wf_top.specs.Ends.{Said, Ended};
 
 use crate::frames::write_file;
@@ -25,6 +26,7 @@ fn run_demo<S: Store>(alloc: Global, demo: &Demo, store: &mut S) -> Result<Strin
     ensures ok { OnOk result (Ran (demo_calls demo.now) (S.files store.old) (S.files store.new)) }
     ensures text { IfOk result (λ t. string_bytes t ≡ summary_line (demo_summary demo.now) ++ memory_text (how demo.now.each) (demo_memories demo.now)) }
     ensures err { OnErr result (Stopped (demo_calls demo.now) (S.files store.old) (S.files store.new)) }
+    ensures failed_call { IsErrOf result IoError.Fault → Failed (demo_calls demo.now) demo_file (S.files store.old) (S.files store.new) }
     ensures faults { Counted (S.faults store.old) (S.faults store.new) result }
     ensures failed { IsErrOf result IoError.Fault → S.failed store.new ≡ demo_file }
 {

@@ -1,9 +1,10 @@
 //! The calls of a store that make a file and add records to it.
 
-ghost use Rattle.std.specs.Prelude.{◌≡◌, ◌⊎◌, ℕ, ◌+◌, ◌≤◌, List, [], ◌∷◌, ◌++◌, length, Option, Some, OnOk, OnErr, IsSome, IsTrue};
+ghost use Rattle.std.specs.Prelude.{◌≡◌, ◌⊎◌, ℕ, ◌+◌, ◌≤◌, List, [], ◌∷◌, ◌++◌, length, Option, Some, OnOk, OnErr, IsErrOf, IsSome, IsTrue};
 ghost use Rattle.wf_io.specs.Files.{Counted, failed_name, is_store_name};
 ghost use Rattle.wf_model.specs.Files.{Files, bytes_at, create, append, write_at};
 ghost use Rattle.wf_model.specs.StoreRuns.{Ran, Stopped};
+ghost use Rattle.wf_top.specs.Failed.{Failed};
 
 use wf_io::{IoError, Store};
 
@@ -12,6 +13,7 @@ pub fn begin_file<S: Store>(store: &mut S, name: &str, header: &[u8]) -> Result<
     requires { IsTrue (is_store_name name.now) }
     ensures ok { OnOk result (Ran (create name.now ∷ append name.now header.now ∷ []) (S.files store.old) (S.files store.new)) }
     ensures err { OnErr result (Stopped (create name.now ∷ append name.now header.now ∷ []) (S.files store.old) (S.files store.new)) }
+    ensures failed_call { IsErrOf result IoError.Fault → Failed (create name.now ∷ append name.now header.now ∷ []) name.now (S.files store.old) (S.files store.new) }
     ensures faults { Counted (S.faults store.old) (S.faults store.new) result }
     ensures failed { S.failed store.new ≡ failed_name result name.now }
 {
@@ -34,6 +36,7 @@ pub fn write_record<S: Store>(
     requires within { (m : Files) → S.files store.old ≡ Some m → 4 + length count.now ≤ length (bytes_at m name.now) }
     ensures ok { OnOk result (Ran (append name.now time.now ∷ append name.now slab.now ∷ write_at name.now 4 count.now ∷ []) (S.files store.old) (S.files store.new)) }
     ensures err { OnErr result (Stopped (append name.now time.now ∷ append name.now slab.now ∷ write_at name.now 4 count.now ∷ []) (S.files store.old) (S.files store.new)) }
+    ensures failed_call { IsErrOf result IoError.Fault → Failed (append name.now time.now ∷ append name.now slab.now ∷ write_at name.now 4 count.now ∷ []) name.now (S.files store.old) (S.files store.new) }
     ensures faults { Counted (S.faults store.old) (S.faults store.new) result }
     ensures failed { S.failed store.new ≡ failed_name result name.now }
 {

@@ -1,11 +1,12 @@
-use Rattle.std.proofs.Common.{arith, refl, sym, ap, subst, ◌∙◌, ◌≡◌, ℕ, ◌+◌, List, [], ◌∷◌}
+use Rattle.std.proofs.Common.{subst, ℕ, ◌+◌, List, [], ◌∷◌}
 use Rattle.std.proofs.lemmas.Result.{on_ok_weaker, on_err_weaker}
 use Rattle.wf_model.specs.Files.{StoreCall, create, append}
 use Rattle.wf_model.specs.Headers.{file_header, placed}
 use Rattle.wf_model.specs.DemoCase.{demo_plan, case_start}
 use Rattle.wf_model.specs.Demo.{demo_file, demo_header, demo_frames}
 use Rattle.wf_model.specs.StoreRuns.{Ran, Stopped}
-use Rattle.wf_top.proofs.StoreRunLaws.{ran_then, stopped_left, stopped_right}
+use Rattle.wf_top.proofs.StoreRunLaws.{ran_then, stopped_left, stopped_right, failed_left, failed_right, same_error}
+use Rattle.wf_top.specs.Failed.{Failed}
 use Rattle.wf_top.proofs.FrameLaws.{header_made}
 use Rattle.wf_top.proofs.frames.write_file.Goals as goal
 
@@ -40,3 +41,18 @@ returns-in-Err-clause-err g c =
     let a = g.S.Store.files c.args.store.now in
     let b = g.S.Store.files c.begin_file.new.store in
     stopped_left (begins (demo_header all.nx all.ny c.args.steps)) (demo_frames all.nx all.ny (c.args.steps + 1)) a b (subst (λ (h : List ℕ). Stopped (begins h) a b) c.requires.header c.in-Err.ensures.err)
+
+pub returns-in-Ok-clause-failed_call : goal.returns-in-Ok-clause-failed_call
+returns-in-Ok-clause-failed_call g c =
+    let all = c.args.patches.now in
+    let a = g.S.Store.files c.args.store.now in
+    let b = g.S.Store.files c.begin_file.new.store in
+    let d = g.S.Store.files c.write_frames.new.store in
+    λ is. failed_right (begins (demo_header all.nx all.ny c.args.steps)) (demo_frames all.nx all.ny (c.args.steps + 1)) demo_file a b d (subst (λ (h : List ℕ). Ran (begins h) a b) c.requires.header c.in-Ok.ensures.ok) (c.write_frames.ensures.failed_call is)
+
+pub returns-in-Err-clause-failed_call : goal.returns-in-Err-clause-failed_call
+returns-in-Err-clause-failed_call g c =
+    let all = c.args.patches.now in
+    let a = g.S.Store.files c.args.store.now in
+    let b = g.S.Store.files c.begin_file.new.store in
+    λ is. failed_left (begins (demo_header all.nx all.ny c.args.steps)) (demo_frames all.nx all.ny (c.args.steps + 1)) demo_file a b (subst (λ (h : List ℕ). Failed (begins h) demo_file a b) c.requires.header (c.in-Err.ensures.failed_call (same_error _ _ is)))

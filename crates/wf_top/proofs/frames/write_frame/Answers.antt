@@ -1,8 +1,10 @@
-use Rattle.std.proofs.Common.{arith, sym, ap, subst, ◌∙◌, ◌≡◌, ℕ, ◌+◌, List, length}
+use Rattle.std.proofs.Common.{arith, ap, subst, ◌∙◌, List, length}
 use Rattle.wf_model.specs.Files.{StoreCall}
 use Rattle.wf_model.specs.Demo.{demo_frame}
 use Rattle.wf_model.specs.StoreRuns.{Ran, Stopped}
-use Rattle.wf_top.proofs.StoreRunLaws.{stopped_none}
+use Rattle.wf_model.specs.Demo.{demo_file}
+use Rattle.wf_top.specs.Failed.{Failed}
+use Rattle.wf_top.proofs.StoreRunLaws.{stopped_none, same_error}
 use Rattle.wf_top.proofs.FrameLaws.{frame_is, header_after, slab_small, time_length}
 use Rattle.wf_top.proofs.frames.write_frame.Goals as goal
 
@@ -55,3 +57,9 @@ returns-clause-err g c =
     let all = c.args.patches.now in
     let same = frame_is c.deref.result.now c.deref-2.result.now c.to_be_bytes-count.result all.nx all.ny c.args.step (c.deref.ensures.value ∙ c.in-Ok.ensures.time) (c.deref-2.ensures.value ∙ c.in-Ok.ensures.slab) c.to_be_bytes-count.ensures in
     subst (λ (cs : List StoreCall). Stopped cs (g.S.Store.files c.args.store.now) (g.S.Store.files c.write_record.new.store)) same c.in-Err-write_record.ensures.err
+
+pub returns-clause-failed_call : goal.returns-clause-failed_call
+returns-clause-failed_call g c =
+    let all = c.args.patches.now in
+    let same = frame_is c.deref.result.now c.deref-2.result.now c.to_be_bytes-count.result all.nx all.ny c.args.step (c.deref.ensures.value ∙ c.in-Ok.ensures.time) (c.deref-2.ensures.value ∙ c.in-Ok.ensures.slab) c.to_be_bytes-count.ensures in
+    λ is. subst (λ (cs : List StoreCall). Failed cs demo_file (g.S.Store.files c.args.store.now) (g.S.Store.files c.write_record.new.store)) same (c.in-Err-write_record.ensures.failed_call (same_error _ _ is))

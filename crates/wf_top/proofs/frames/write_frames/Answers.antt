@@ -1,11 +1,12 @@
-use Rattle.std.proofs.Common.{arith, refl, sym, ap, subst, ◌∙◌, ◌≡◌, ℕ, ◌+◌, ◌-◌, ◌*◌, ◌<◌, ◌≤◌, List, length, sum_by}
+use Rattle.std.proofs.Common.{arith, sym, ap, subst, ◌∙◌, ◌≡◌, ◌+◌, ◌-◌, List, sum_by}
 use Rattle.std.specs.List.{range_with_len}
 use Rattle.wf_model.specs.Files.{StoreCall}
-use Rattle.wf_model.specs.Demo.{demo_frame, demo_frames, frame_sum}
+use Rattle.wf_model.specs.Demo.{demo_file, demo_frames, frame_sum}
 use Rattle.wf_model.specs.StoreRuns.{Ran, Stopped}
 use Rattle.wf_top.specs.Domains.{HoldGrid}
+use Rattle.wf_top.specs.Failed.{Failed}
 use Rattle.wf_top.proofs.DomainLaws.{size_then}
-use Rattle.wf_top.proofs.FrameLaws.{ran_step, stopped_frame, sum_step, frame_along, sum_along}
+use Rattle.wf_top.proofs.FrameLaws.{ran_step, stopped_frame, failed_frame, sum_step, frame_along, sum_along}
 use Rattle.wf_top.proofs.frames.write_frames.Goals as goal
 
 pub returns-in-Err-clause-err : goal.returns-in-Err-clause-err
@@ -85,3 +86,26 @@ returns-clause-err g c =
     let same = frame_along start.nx start.ny mid.nx mid.ny n c.loop-step.invariant.size.nx c.loop-step.invariant.size.ny in
     stopped_frame start.nx start.ny n (n + 1) a b d (omega arith) (subst (λ k. Ran (demo_frames start.nx start.ny k) a b) last c.loop-step.invariant.ran)
     (subst (λ (cs : List StoreCall). Stopped cs b d) same c.in-Err-write_frame.ensures.err)
+
+pub returns-in-Err-clause-failed_call : goal.returns-in-Err-clause-failed_call
+returns-in-Err-clause-failed_call g c =
+    let start = c.args.patches.now in
+    let mid = c.loop-step.patches in
+    let a = g.S.Store.files c.args.store.now in
+    let b = g.S.Store.files c.loop-step.store in
+    let d = g.S.Store.files c.write_frame.new.store in
+    let same = frame_along start.nx start.ny mid.nx mid.ny c.loop-step.step c.loop-step.invariant.size.nx c.loop-step.invariant.size.ny in
+    λ is. failed_frame start.nx start.ny c.loop-step.step (c.args.steps + 1) a b d (omega arith) c.loop-step.invariant.ran (subst (λ (cs : List StoreCall). Failed cs demo_file b d) same (c.in-Err.ensures.failed_call is))
+
+pub returns-clause-failed_call : goal.returns-clause-failed_call
+returns-clause-failed_call g c =
+    let start = c.args.patches.now in
+    let mid = c.loop-step.patches in
+    let n = c.args.steps in
+    let a = g.S.Store.files c.args.store.now in
+    let b = g.S.Store.files c.loop-step.store in
+    let d = g.S.Store.files c.write_frame-2.new.store in
+    let last : c.loop-step.step ≡ n = omega arith in
+    let same = frame_along start.nx start.ny mid.nx mid.ny n c.loop-step.invariant.size.nx c.loop-step.invariant.size.ny in
+    λ is. failed_frame start.nx start.ny n (n + 1) a b d (omega arith) (subst (λ k. Ran (demo_frames start.nx start.ny k) a b) last c.loop-step.invariant.ran)
+    (subst (λ (cs : List StoreCall). Failed cs demo_file b d) same (c.in-Err-write_frame.ensures.failed_call is))

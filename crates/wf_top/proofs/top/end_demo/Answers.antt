@@ -1,8 +1,8 @@
-use Rattle.std.proofs.Common.{arith, refl, ap, ◌∙◌, ◌≡◌, ℕ, List, [], Err}
+use Rattle.std.proofs.Common.{ap, ◌∙◌, [], Err}
 use Rattle.wf_model.specs.declared.plan_fault.LayoutFault.TheVariants.{TooManyPatches}
 use Rattle.wf_model.specs.Refusals.{layout_refusal}
 use Rattle.wf_model.specs.Answer.{refused}
-use Rattle.wf_model.specs.Demo.{demo_answer, demo_calls}
+use Rattle.wf_model.specs.Demo.{demo_answer}
 use Rattle.wf_top.proofs.StoreRunLaws.{ran_none, stopped_none}
 use Rattle.wf_top.specs.Ends.{Said}
 use Rattle.wf_top.proofs.EndLaws.{whole_answer, too_many_is, whole_is, ended_whole, ended_failed, ended_lacking}
@@ -34,7 +34,7 @@ returns-in-Err-Fault g c =
     let d = c.args.demo.now in
     ended_failed (g.S.Store.files c.args.store.now) (g.S.Store.files c.run_demo.new.store) (g.S.Store.faults c.args.store.now) (g.S.Store.faults c.run_demo.new.store) (g.S.Store.failed c.run_demo.new.store)
     (λ status text. Said status text (g.O.Sink.taken c.args.out.now) (g.O.Sink.taken c.say-in-Err-Fault.new.out) (g.O.Sink.faults c.args.out.now) (g.O.Sink.faults c.say-in-Err-Fault.new.out) c.say-in-Err-Fault.result)
-    (whole_answer d) (demo_answer d) (whole_is d c.if-demo.false) (c.in-Err-Fault.ensures.faults.rose (ap (λ (e : _). Err e) c.in-Err-Fault.field-0-is)) (c.in-Err-Fault.ensures.failed (ap (λ (e : _). Err e) c.in-Err-Fault.field-0-is)) c.in-Err-Fault.ensures.err c.say-in-Err-Fault.ensures
+    (whole_answer d) (demo_answer d) (whole_is d c.if-demo.false) (c.in-Err-Fault.ensures.faults.rose (ap (λ (e : _). Err e) c.in-Err-Fault.field-0-is)) (c.in-Err-Fault.ensures.failed (ap (λ (e : _). Err e) c.in-Err-Fault.field-0-is)) (c.in-Err-Fault.ensures.failed_call (ap (λ (e : _). Err e) c.in-Err-Fault.field-0-is)) c.say-in-Err-Fault.ensures
 
 pub returns-in-Err-Memory : goal.returns-in-Err-Memory
 returns-in-Err-Memory g c =
