@@ -1,2 +1,4 @@
 pub mod JoinedLines
 pub mod FactorRoom
+pub mod ReadingLemmas
+pub mod StoreRunLaws

@@ -15,6 +15,7 @@ pub mod Headers
 pub mod Frames
 pub mod Files
 pub mod StoreRuns
+pub mod Failed
 pub mod Writes
 pub mod Reads
 pub mod Patches

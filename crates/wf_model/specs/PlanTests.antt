@@ -56,9 +56,9 @@ until_restart =
     record { name = codes "restart"; asks = is_set } ∷ record { name = codes "restart_interval"; asks = is_above 0 }
     ∷ map (λ s. record { name = codes "auxhist" ++ ((48 + s) ∷ codes "_interval"); asks = is_above 0 }) (range_with_len 1 9)
 
--- in the order in which they are named. Nothing is left to build
+-- in the order in which they are named
 abbrev pub unbuilt : List Unbuilt
-unbuilt = []
+unbuilt = until_nests ++ until_restart
 
 -- values of domains past max_dom ask for nothing
 abbrev pub unbuilt_fault : Config → Unbuilt → Option PlanFault
@@ -229,13 +229,12 @@ limit_faults plan zs =
 abbrev pub nests_of : Plan → List ℕ
 nests_of plan = filter (nat_lt 1) (domains_of plan)
 
--- all tests, in order
-unfoldable pub plan_faults : Config → List HookName → Plan → Faults
-plan_faults config hooks plan =
+-- the tests of what is built, in order
+unfoldable pub built_faults : Config → List HookName → Plan → Faults
+built_faults config hooks plan =
     let nests = nests_of plan in
     let zs = z_extents config in
-    map (unbuilt_fault config) unbuilt
-    ++ map (date_fault config) (domains_of plan)
+    map (date_fault config) (domains_of plan)
     ++ (end_fault config ∷ [])
     ++ map (parent_fault plan) nests
     ++ map (ratio_fault plan) nests
@@ -250,3 +249,7 @@ plan_faults config hooks plan =
     ++ flat_map (λ d. flat_map (phase_levels plan zs d) (phases plan.items)) (domains_of plan)
     ++ flat_map (λ d. flat_map (phase_edges plan zs d) (phases plan.items)) (domains_of plan)
     ++ limit_faults plan zs
+
+-- all tests, in order: what isn't built comes first
+unfoldable pub plan_faults : Config → List HookName → Plan → Faults
+plan_faults config hooks plan = map (unbuilt_fault config) unbuilt ++ built_faults config hooks plan

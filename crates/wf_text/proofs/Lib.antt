@@ -2,4 +2,3 @@ pub mod LastByte
 pub mod LineEnds
 pub mod LogicalLines
 pub mod WordScan
-pub mod ReadingLemmas

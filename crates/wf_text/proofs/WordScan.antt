@@ -6,7 +6,7 @@ use Rattle.wf_model.specs.declared.text.TextFault.{TextFault}
 use Rattle.wf_model.specs.declared.text.Word.{Word}
 use Rattle.wf_model.specs.Reading.{◌>>=◌, Fails}
 use Rattle.wf_model.specs.Lines.{is_blank, word_at, words_from}
-use Rattle.wf_text.proofs.ReadingLemmas.{with_front, with_front-cons, with_front-end, Fails-along, Fails-chain, Fails-front}
+use Rattle.wf_model.proofs.ReadingLemmas.{with_front, with_front-cons, with_front-end, Fails-along, Fails-chain, Fails-front}
 
 -- the words of a line, or its fault
 abbrev pub Read : Type 0

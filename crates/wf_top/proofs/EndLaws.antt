@@ -10,7 +10,7 @@ use Rattle.wf_model.specs.Refusals.{layout_refusal}
 use Rattle.wf_model.specs.Answer.{Answer, refused, summary_line, memory_text, how}
 use Rattle.wf_model.specs.Demo.{demo_file, demo_of, demo_calls, demo_summary, demo_memories, demo_answer, usage, tool_answer}
 use Rattle.wf_top.specs.Told.{file_calls}
-use Rattle.wf_top.specs.Failed.{Failed}
+use Rattle.wf_model.specs.Failed.{Failed}
 use Rattle.wf_top.specs.Ends.{Ended, store_text, memory_text as lacking_text}
 
 -- ---- answers

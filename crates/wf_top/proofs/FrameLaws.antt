@@ -13,8 +13,8 @@ use Rattle.wf_model.specs.Bytes.{four_bytes, slab_bytes, header_bytes, list_byte
 use Rattle.wf_model.specs.Files.{Files, StoreCall, create, append, write_at, with_file, bytes_at, patched, files_after_all}
 use Rattle.wf_model.specs.StoreRuns.{Ran, Stopped}
 use Rattle.wf_model.specs.Demo.{demo_file, demo_time, demo_value, demo_grid, demo_frame, demo_frames, frame_sum}
-use Rattle.wf_top.specs.Failed.{Failed}
-use Rattle.wf_top.proofs.StoreRunLaws.{told_back, ran_then, stopped_left, stopped_right, failed_left, failed_right}
+use Rattle.wf_model.specs.Failed.{Failed}
+use Rattle.wf_model.proofs.StoreRunLaws.{told_back, ran_then, stopped_left, stopped_right, failed_left, failed_right}
 use Rattle.wf_top.specs.Told.{HasHeader}
 use Rattle.wf_top.proofs.RangeLaws.{flat_map_split, sum_more}
 

@@ -3,7 +3,7 @@ use Rattle.std.specs.Prelude.{◌≡◌, ◌⊎◌, ℕ, ◌≤◌, List, [], �
 use Rattle.wf_io.specs.Files.{Told, Rose}
 use Rattle.wf_model.specs.Files.{Files}
 use Rattle.wf_model.specs.StoreRuns.{Ran, Stopped}
-use Rattle.wf_top.specs.Failed.{Failed}
+use Rattle.wf_model.specs.Failed.{Failed}
 use Rattle.wf_model.specs.Refusals.{line}
 use Rattle.wf_model.specs.Answer.{Answer}
 use Rattle.wf_model.specs.Demo.{demo_file}

@@ -10,7 +10,7 @@ ghost use Rattle.wf_model.specs.Demo.{demo_file, demo_time, demo_grid, demo_fram
 ghost use Rattle.wf_model.specs.StoreRuns.{Ran, Stopped};
 ghost use Rattle.wf_top.specs.Domains.{IsDomain, SameSize, HoldGrid};
 ghost use Rattle.wf_top.specs.Told.{HasHeader, file_calls};
-ghost use Rattle.wf_top.specs.Failed.{Failed};
+ghost use Rattle.wf_model.specs.Failed.{Failed};
 
 use crate::patches::Patches;
 use crate::writes::{begin_file, write_record};

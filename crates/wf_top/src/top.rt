@@ -6,7 +6,7 @@ ghost use Rattle.wf_model.specs.StoreRuns.{Ran, Stopped};
 ghost use Rattle.wf_model.specs.Answer.{summary_line, memory_text, how};
 ghost use Rattle.wf_model.specs.Demo.{demo_file, demo_calls, demo_summary, demo_memories, demo_answer, tool_answer};
 ghost use Rattle.wf_top.specs.Limits.{InLimits};
-ghost use Rattle.wf_top.specs.Failed.{Failed};
+ghost use Rattle.wf_model.specs.Failed.{Failed};
 ghost use Rattle.wf_top.specs.Ends.{Said, Ended};
 
 use crate::frames::write_file;

@@ -4,7 +4,7 @@ ghost use Rattle.std.specs.Prelude.{◌≡◌, ◌⊎◌, ℕ, ◌+◌, ◌≤�
 ghost use Rattle.wf_io.specs.Files.{Counted, failed_name, is_store_name};
 ghost use Rattle.wf_model.specs.Files.{Files, bytes_at, create, append, write_at};
 ghost use Rattle.wf_model.specs.StoreRuns.{Ran, Stopped};
-ghost use Rattle.wf_top.specs.Failed.{Failed};
+ghost use Rattle.wf_model.specs.Failed.{Failed};
 
 use wf_io::{IoError, Store};
 

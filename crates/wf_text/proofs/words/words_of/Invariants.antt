@@ -1,6 +1,6 @@
 use Rattle.std.proofs.Common.{◌≡◌, ◌+◌, ◌-◌, ◌≤◌, length, drop}
 use Rattle.wf_model.specs.Lines.{words_from}
-use Rattle.wf_text.proofs.ReadingLemmas.{with_front}
+use Rattle.wf_model.proofs.ReadingLemmas.{with_front}
 use Rattle.wf_text.proofs.words.words_of.Given as goal
 
 abbrev pub invariant-loop-at : goal.invariant-loop-at

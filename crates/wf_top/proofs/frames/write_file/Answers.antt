@@ -5,8 +5,8 @@ use Rattle.wf_model.specs.Headers.{file_header, placed}
 use Rattle.wf_model.specs.DemoCase.{demo_plan, case_start}
 use Rattle.wf_model.specs.Demo.{demo_file, demo_header, demo_frames}
 use Rattle.wf_model.specs.StoreRuns.{Ran, Stopped}
-use Rattle.wf_top.proofs.StoreRunLaws.{ran_then, stopped_left, stopped_right, failed_left, failed_right, same_error}
-use Rattle.wf_top.specs.Failed.{Failed}
+use Rattle.wf_model.proofs.StoreRunLaws.{ran_then, stopped_left, stopped_right, failed_left, failed_right, same_error}
+use Rattle.wf_model.specs.Failed.{Failed}
 use Rattle.wf_top.proofs.FrameLaws.{header_made}
 use Rattle.wf_top.proofs.frames.write_file.Goals as goal
 

@@ -3,8 +3,8 @@ use Rattle.wf_model.specs.Files.{StoreCall}
 use Rattle.wf_model.specs.Demo.{demo_frame}
 use Rattle.wf_model.specs.StoreRuns.{Ran, Stopped}
 use Rattle.wf_model.specs.Demo.{demo_file}
-use Rattle.wf_top.specs.Failed.{Failed}
-use Rattle.wf_top.proofs.StoreRunLaws.{stopped_none, same_error}
+use Rattle.wf_model.specs.Failed.{Failed}
+use Rattle.wf_model.proofs.StoreRunLaws.{stopped_none, same_error}
 use Rattle.wf_top.proofs.FrameLaws.{frame_is, header_after, slab_small, time_length}
 use Rattle.wf_top.proofs.frames.write_frame.Goals as goal
 

@@ -4,7 +4,7 @@ use Rattle.wf_model.specs.Files.{StoreCall}
 use Rattle.wf_model.specs.Demo.{demo_file, demo_frames, frame_sum}
 use Rattle.wf_model.specs.StoreRuns.{Ran, Stopped}
 use Rattle.wf_top.specs.Domains.{HoldGrid}
-use Rattle.wf_top.specs.Failed.{Failed}
+use Rattle.wf_model.specs.Failed.{Failed}
 use Rattle.wf_top.proofs.DomainLaws.{size_then}
 use Rattle.wf_top.proofs.FrameLaws.{ran_step, stopped_frame, failed_frame, sum_step, frame_along, sum_along}
 use Rattle.wf_top.proofs.frames.write_frames.Goals as goal

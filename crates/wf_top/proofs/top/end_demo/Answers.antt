@@ -3,7 +3,7 @@ use Rattle.wf_model.specs.declared.plan_fault.LayoutFault.TheVariants.{TooManyPa
 use Rattle.wf_model.specs.Refusals.{layout_refusal}
 use Rattle.wf_model.specs.Answer.{refused}
 use Rattle.wf_model.specs.Demo.{demo_answer}
-use Rattle.wf_top.proofs.StoreRunLaws.{ran_none, stopped_none}
+use Rattle.wf_model.proofs.StoreRunLaws.{ran_none, stopped_none}
 use Rattle.wf_top.specs.Ends.{Said}
 use Rattle.wf_top.proofs.EndLaws.{whole_answer, too_many_is, whole_is, ended_whole, ended_failed, ended_lacking}
 use Rattle.wf_top.proofs.top.end_demo.Goals as goal

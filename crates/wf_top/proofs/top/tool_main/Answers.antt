@@ -1,7 +1,7 @@
 use Rattle.std.proofs.Common.{arith, refl, ap, subst, ◌∙◌, ◌≡◌, ℕ, List, map, string_bytes}
 use Rattle.wf_model.specs.Answer.{Answer}
 use Rattle.wf_model.specs.Demo.{usage, tool_answer}
-use Rattle.wf_top.proofs.StoreRunLaws.{ran_none}
+use Rattle.wf_model.proofs.StoreRunLaws.{ran_none}
 use Rattle.wf_top.specs.Ends.{Said, Ended}
 use Rattle.wf_top.proofs.EndLaws.{usage_is, asked_is, ended_whole}
 use Rattle.wf_top.proofs.top.tool_main.Goals as goal

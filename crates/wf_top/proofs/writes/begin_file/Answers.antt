@@ -1,7 +1,7 @@
 use Rattle.std.proofs.Common.{refl, [], ◌∷◌}
 use Rattle.std.proofs.lemmas.Result.{on_err_weaker}
 use Rattle.wf_model.specs.Files.{create, append}
-use Rattle.wf_top.proofs.StoreRunLaws.{stopped_one, stopped_right, at_error, failed_one, failed_right}
+use Rattle.wf_model.proofs.StoreRunLaws.{stopped_one, stopped_right, at_error, failed_one, failed_right}
 use Rattle.wf_top.proofs.writes.begin_file.Goals as goal
 
 pub returns-in-Err-clause-err : goal.returns-in-Err-clause-err

@@ -5,7 +5,7 @@ use Rattle.std.proofs.lemmas.List.{take-append-le, drop-append-le}
 use Rattle.std.proofs.Math.Seq.{take-length}
 use Rattle.wf_model.specs.Files.{Files, StoreCall, after_call, files_after, files_after_all}
 use Rattle.wf_model.specs.StoreRuns.{Told, MayLeave, FirstMayLeave, IsPrefix, Ran, Stopped}
-use Rattle.wf_top.specs.Failed.{file_of, FirstFails, IsFailed, Failed}
+use Rattle.wf_model.specs.Failed.{file_of, FirstFails, IsFailed, Failed}
 
 -- ---- what is told
 
