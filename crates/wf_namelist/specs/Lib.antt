@@ -1,0 +1,2 @@
+pub mod NamelistError
+pub mod Scanning
