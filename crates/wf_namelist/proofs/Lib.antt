@@ -1,2 +1,3 @@
 pub mod QuotedTexts
 pub mod ScanTurns
+pub mod TokenPlaces

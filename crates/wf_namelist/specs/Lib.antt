@@ -1,2 +1,3 @@
 pub mod NamelistError
+pub mod Places
 pub mod Scanning

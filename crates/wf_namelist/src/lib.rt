@@ -2,8 +2,8 @@
 #![tactic(auto)]
 
 mod error;
-mod forms;
 mod place;
+mod reading;
 mod quoted;
 mod scan;
 mod step;

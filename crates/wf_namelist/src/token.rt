@@ -11,7 +11,7 @@ use crate::place::Place;
 use crate::quoted::quoted;
 use std::alloc::{AllocError, Global};
 use wf_model::{Bytes, Name, Sort};
-use crate::forms::lower;
+use wf_text::lower;
 
 /// A token that begins, how many bytes it has after its first, and where scanning goes on.
 #[derive(Drop)]
