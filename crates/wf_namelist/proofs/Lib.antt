@@ -1,3 +1,6 @@
+pub mod ItemTurns
+pub mod Names
 pub mod QuotedTexts
 pub mod ScanTurns
 pub mod TokenPlaces
+pub mod WordValues

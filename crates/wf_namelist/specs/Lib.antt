@@ -1,3 +1,5 @@
 pub mod NamelistError
 pub mod Places
 pub mod Scanning
+pub mod Turns
+pub mod Words

@@ -2,11 +2,13 @@
 #![tactic(auto)]
 
 mod error;
+mod item;
 mod place;
 mod reading;
 mod quoted;
 mod scan;
 mod step;
 mod token;
+mod values;
 
 pub use error::NamelistError;
