@@ -1,4 +1,6 @@
+pub mod GroupTurns
 pub mod ItemTurns
+pub mod NamedGroups
 pub mod Names
 pub mod QuotedTexts
 pub mod ScanTurns

@@ -10,7 +10,7 @@ use Rattle.wf_model.specs.NamelistTokens.{Where, line_begins, passing, in_group,
 use Rattle.wf_namelist.specs.Scanning.{Turn, line_ends, passes, begins, turn_at, apart_at}
 
 -- the tokens from a byte on, after what it is
-abbrev go_on : Where → ℕ → Bool → Text → Turn → List NamelistToken
+abbrev pub go_on : Where → ℕ → Bool → Text → Turn → List NamelistToken
 go_on place line apart bs (line_ends next) = scan next (line + 1) true 0 bs
 go_on place line apart bs (passes next) = scan next line true 0 bs
 go_on place line apart bs (begins t) = token t.sort line (apart_at place apart) ∷ scan t.next line false t.size bs
@@ -24,7 +24,7 @@ otherwise : {A : Type 0} (b : Bool) (x y z : A) → y ≡ z → cond b x y ≡ c
 otherwise b x y z e = ap (cond b x) e
 
 -- a byte that belongs to no token before
-turn : (place : Where) (line : ℕ) (apart : Bool) (b : ℕ) (bs : Text) → scan place line apart 0 (b ∷ bs) ≡ go_on place line apart bs (turn_at place b bs)
+pub turn : (place : Where) (line : ℕ) (apart : Bool) (b : ℕ) (bs : Text) → scan place line apart 0 (b ∷ bs) ≡ go_on place line apart bs (turn_at place b bs)
 unfolding scan
 turn line_begins line apart b bs =
     let go = go_on line_begins line apart bs in

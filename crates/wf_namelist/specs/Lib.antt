@@ -1,3 +1,4 @@
+pub mod Groups
 pub mod NamelistError
 pub mod Places
 pub mod Scanning

@@ -165,7 +165,7 @@ fn copied(alloc: Global, name: &Name) -> Result<Name, AllocError>
 }
 
 /// The item that begins here, and the place behind it.
-pub(crate) fn item(
+pub(crate) fn item_at(
     alloc: Global,
     group: &Name,
     tokens: &[NamelistToken],

@@ -2,6 +2,7 @@
 #![tactic(auto)]
 
 mod error;
+mod group;
 mod item;
 mod place;
 mod reading;

@@ -1,7 +1,9 @@
 //! The tokens of a text.
 
-ghost use Rattle.std.specs.Prelude.{◌≡◌, ◌+◌, ◌==◌, IfOk, count_by, true};
+ghost use Rattle.std.specs.Prelude.{◌≡◌, ◌+◌, ◌==◌, IfOk, IsTrue, count_by, true};
+ghost use Rattle.std.specs.List.{list_all};
 ghost use Rattle.wf_model.specs.NamelistTokens.{last_line, line_begins, namelist_tokens, scan};
+ghost use Rattle.wf_namelist.specs.Groups.{is_named};
 
 use crate::place::{Place, is_apart};
 use crate::step::{Step, step_at};
@@ -72,12 +74,13 @@ fn last_line(bytes: &[u8]) -> Result<u32, AllocError>
 }
 
 /// The tokens of a text, and its end as a last one.
-#[tactic(auto, unfolding(wf_model::specs::NamelistTokens::namelist_tokens))]
+#[tactic(auto, using(crate::proofs::NamedGroups::tokens_named), unfolding(wf_model::specs::NamelistTokens::namelist_tokens))]
 pub(crate) fn namelist_tokens(
     alloc: Global,
     bytes: &[u8],
 ) -> Result<Vec<NamelistToken>, AllocError>
-    ensures { IfOk result (λ v. v.items ≡ namelist_tokens bytes.now) }
+    ensures tokens { IfOk result (λ v. v.items ≡ namelist_tokens bytes.now) }
+    ensures named { IfOk result (λ v. IsTrue (list_all is_named v.items)) }
 {
     let mut tokens = scan(alloc, bytes)?;
     let sort = Sort::EndOfText;
