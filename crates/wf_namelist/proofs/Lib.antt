@@ -1,5 +1,6 @@
 pub mod GroupTurns
 pub mod ItemTurns
+pub mod KeptItems
 pub mod NamedGroups
 pub mod Names
 pub mod QuotedTexts

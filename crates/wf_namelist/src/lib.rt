@@ -4,6 +4,8 @@
 mod error;
 mod group;
 mod item;
+mod last;
+mod namelist;
 mod place;
 mod reading;
 mod quoted;
@@ -13,3 +15,4 @@ mod token;
 mod values;
 
 pub use error::NamelistError;
+pub use namelist::read_namelist;
