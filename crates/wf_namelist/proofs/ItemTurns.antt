@@ -44,7 +44,7 @@ plain_turn n vs after_comma ts =
 named_turn : (n : ℕ) (vs : List Value) (after_comma : Bool) (ts : Tokens) (read : Result (Option Text) NamelistFault)
     → (read >>= (λ name. cond (is_some name) (Ok ends) (value_or_comma (is_behind_value vs after_comma) ts)) >>= follow n vs ts)
     ≡ (read >>= λ name. cond (is_some name) (some_value vs ts)
-        (cond (is_comma (here ts).sort) (cond after_comma (refuse ts NullValue) (some_value vs ts >>= λ r. values n vs true (rest ts))) (values_here (here ts).sort ts >>= λ r. values n (vs ++ r.0) false r.1)))
+    (cond (is_comma (here ts).sort) (cond after_comma (refuse ts NullValue) (some_value vs ts >>= λ r. values n vs true (rest ts))) (values_here (here ts).sort ts >>= λ r. values n (vs ++ r.0) false r.1)))
 named_turn n vs after_comma ts (Err f) = refl
 named_turn n vs after_comma ts (Ok None) = plain_turn n vs after_comma ts
 named_turn n vs after_comma ts (Ok (Some name)) = refl

@@ -32,9 +32,9 @@ pub record KeptFrom (whole front kept : List Item) (seen : Key → Bool) : Type 
 
 same_byte : (a b : ℕ) → nat_eq a b ≡ nat_eq b a
 same_byte a b = elim (eqb_tells a b) [
-    | inl is ↦ is.0 ∙ sym (ap (eqb b) is.1 ∙ (let e : eqb b b ≡ true = eq-eqb b b refl in e))
-    | inr other ↦ other.0 ∙ sym (ne_eqb b a (λ e. other.1 (sym e)))
-  ]
+  | inl is ↦ is.0 ∙ sym (ap (eqb b) is.1 ∙ (let e : eqb b b ≡ true = eq-eqb b b refl in e))
+  | inr other ↦ other.0 ∙ sym (ne_eqb b a (λ e. other.1 (sym e)))
+]
 
 same_bytes : (a b : Text) → bytes_eq a b ≡ bytes_eq b a
 same_bytes [] [] = refl

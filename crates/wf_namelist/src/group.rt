@@ -77,10 +77,7 @@ fn group_at(
 }
 
 /// The items of all groups.
-pub(crate) fn groups(
-    alloc: Global,
-    tokens: &[NamelistToken],
-) -> Result<Vec<Item>, NamelistError>
+pub(crate) fn groups(alloc: Global, tokens: &[NamelistToken]) -> Result<Vec<Item>, NamelistError>
     requires { IsTrue (list_all is_named tokens.now) }
     ensures { Gives (λ v. v.items) fault_of result (groups (length tokens.now) tokens.now) }
 {

@@ -28,7 +28,8 @@ pub(crate) fn last_items(alloc: Global, mut items: Vec<Item>) -> Result<Vec<Item
     let mut kept = Vec::new(alloc);
     while let Some(item) = items.pop() {
         let key = key_of(alloc, &item)?;
-        if seen.insert(key)? {
+        let is_new = seen.insert(key)?;
+        if is_new {
             kept.push(item)?;
         }
     }

@@ -1,4 +1,7 @@
-//! The namelist of a run.
+//! The namelist of a run, as Fortran writes it.
+//!
+//! A text is scanned to its tokens, which know their lines; groups, items and values are read over the
+//! tokens; and of items that are repeated the last are kept. Each step takes time linear in the text.
 #![tactic(auto)]
 
 mod error;
@@ -7,8 +10,8 @@ mod item;
 mod last;
 mod namelist;
 mod place;
-mod reading;
 mod quoted;
+mod reading;
 mod scan;
 mod step;
 mod token;
@@ -16,3 +19,6 @@ mod values;
 
 pub use error::NamelistError;
 pub use namelist::read_namelist;
+
+#[cfg(test)]
+mod tests;

@@ -85,7 +85,10 @@ pub(crate) fn is_parenthesis(tokens: &[NamelistToken], at: usize) -> bool
 pub(crate) fn is_outside(tokens: &[NamelistToken], at: usize) -> bool
     ensures { result ≡ is_outside (here (drop at tokens.now)).sort }
 {
-    matches!(sort_at(tokens, at), None | Some(Sort::EndOfText | Sort::Ampersand))
+    matches!(
+        sort_at(tokens, at),
+        None | Some(Sort::EndOfText | Sort::Ampersand)
+    )
 }
 
 /// Whether something parts a value before this place from what stands here.

@@ -7,6 +7,7 @@ ghost use Rattle.wf_namelist.specs.Groups.{is_named};
 
 use crate::place::{Place, is_apart};
 use crate::step::{Step, step_at};
+use crate::token::Begun;
 use std::alloc::{AllocError, Global};
 use wf_model::{NamelistToken, Sort};
 
@@ -41,9 +42,7 @@ fn scan(alloc: Global, bytes: &[u8]) -> Result<Vec<NamelistToken>, AllocError>
                 at += 1;
             }
             Step::Begins(token) => {
-                let sort = token.sort;
-                let size = token.size;
-                let next = token.next;
+                let Begun { sort, size, next } = token;
                 let apart_here = is_apart(place, apart);
                 tokens.push(NamelistToken {
                     sort,
@@ -75,10 +74,7 @@ fn last_line(bytes: &[u8]) -> Result<u32, AllocError>
 
 /// The tokens of a text, and its end as a last one.
 #[tactic(auto, using(crate::proofs::NamedGroups::tokens_named), unfolding(wf_model::specs::NamelistTokens::namelist_tokens))]
-pub(crate) fn namelist_tokens(
-    alloc: Global,
-    bytes: &[u8],
-) -> Result<Vec<NamelistToken>, AllocError>
+pub(crate) fn namelist_tokens(alloc: Global, bytes: &[u8]) -> Result<Vec<NamelistToken>, AllocError>
     ensures tokens { IfOk result (λ v. v.items ≡ namelist_tokens bytes.now) }
     ensures named { IfOk result (λ v. IsTrue (list_all is_named v.items)) }
 {

@@ -92,7 +92,7 @@ fn word_token(alloc: Global, first: u8, after: &[u8]) -> Result<Begun, AllocErro
     ensures bound { IfOk result (λ t. t.size ≤ length after.now) }
 {
     let size = word_len(after);
-    let mut word = Vec::new(alloc);
+    let mut word = Vec::with_capacity(alloc, size + 1)?;
     word.push(first)?;
     word.extend_from_slice(&after[..size])?;
     let sort = Sort::Word(Bytes::from_vec(word));

@@ -138,7 +138,12 @@ fn repeated_text(
     match sort_at(tokens, at) {
         Some(Sort::Text(text)) => {
             let value = Value::Text(copied(alloc, text.as_slice())?);
-            parted(copies(alloc, count, &value)?, tokens, from, after(tokens, at))
+            parted(
+                copies(alloc, count, &value)?,
+                tokens,
+                from,
+                after(tokens, at),
+            )
         }
         Some(Sort::OpenText) => Err(refused(tokens, at, NamelistKind::UnclosedText)),
         _ => Err(refused(tokens, from, NamelistKind::BadValue)),

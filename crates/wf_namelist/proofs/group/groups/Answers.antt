@@ -1,7 +1,5 @@
-use Rattle.std.proofs.Common.{◌+◌, ◌-◌, ◌∙◌, Ok, ap, sym, drop, length, option_map}
+use Rattle.std.proofs.Common.{◌∙◌, Ok, ap, drop, length, option_map}
 use Rattle.std.proofs.lemmas.Result.{err_from_is_err_and}
-use Rattle.wf_model.specs.Namelist.{groups}
-use Rattle.wf_model.proofs.ReadingLemmas.{with_front}
 use Rattle.wf_namelist.specs.NamelistError.{fault_of}
 use Rattle.wf_namelist.proofs.GroupTurns.{after_group, no_more, group_fails, all_read}
 use Rattle.wf_namelist.proofs.group.groups.Goals as goal
@@ -14,14 +12,14 @@ returns-in_err-group_at c =
 pub returns-in-None : goal.returns-in-None
 returns-in-None c =
     no_more c.loop.items.items (length c.args.tokens.now) c.loop.counter (drop c.loop.at c.args.tokens.now) _ c.loop-test.true
-        (c.in_ok-group_at.ensures ∙ ap (λ g. Ok (option_map (λ r. (r.0.items, drop r.1 c.args.tokens.now)) g)) c.in-None.is) c.loop.invariant
+    (c.in_ok-group_at.ensures ∙ ap (λ g. Ok (option_map (λ r. (r.0.items, drop r.1 c.args.tokens.now)) g)) c.in-None.is) c.loop.invariant
 
 pub loop-preserved : goal.loop-preserved
 loop-preserved c =
     let next = drop c.in-Some.next c.args.tokens.now in
     rw c.in_ok-append-in-Some.ensures.items
-        (after_group c.loop.items.items c.in-Some.more.items next (length c.args.tokens.now) c.loop.counter (drop c.loop.at c.args.tokens.now) _ c.loop-test.true
-        (c.in_ok-group_at.ensures ∙ ap (λ g. Ok (option_map (λ r. (r.0.items, drop r.1 c.args.tokens.now)) g)) c.in-Some.is) c.loop.invariant)
+    (after_group c.loop.items.items c.in-Some.more.items next (length c.args.tokens.now) c.loop.counter (drop c.loop.at c.args.tokens.now) _ c.loop-test.true
+    (c.in_ok-group_at.ensures ∙ ap (λ g. Ok (option_map (λ r. (r.0.items, drop r.1 c.args.tokens.now)) g)) c.in-Some.is) c.loop.invariant)
 
 pub returns : goal.returns
 returns c = all_read c.loop.items.items (length c.args.tokens.now) c.loop.counter (drop c.loop.at c.args.tokens.now) _ c.loop-test.false c.loop.invariant

@@ -11,9 +11,9 @@ loop-item-init c =
 pub loop-item-preserved-in-Continue-branch-3 : goal.loop-item-preserved-in-Continue-branch-3
 loop-item-preserved-in-Continue-branch-3 c =
     kept_new c.args.items.items c.loop-item.items.items c.pop.new.self.items c.loop-item.kept.items c.push.new.self.items (contains key_eq c.loop-item.seen) (contains key_eq c.insert.new.self) c.in_ok-key.key c.in-Some.item
-    c.in-Some.ensures.items c.in_ok-push.ensures.items c.in_ok-key.ensures.group c.in_ok-key.ensures.name (sym c.if-branch.true ∙ c.in_ok-insert.ensures.added) c.in_ok-insert.ensures.updates.0 c.loop-item.invariant
+    c.in-Some.ensures.items c.in_ok-push.ensures.items c.in_ok-key.ensures.group c.in_ok-key.ensures.name (sym c.if-is_new.true ∙ c.in_ok-is_new.ensures.added) c.in_ok-is_new.ensures.updates.0 c.loop-item.invariant
 
 pub loop-item-preserved : goal.loop-item-preserved
 loop-item-preserved c =
     kept_old c.args.items.items c.loop-item.items.items c.pop.new.self.items c.loop-item.kept.items (contains key_eq c.loop-item.seen) (contains key_eq c.insert.new.self) c.in_ok-key.key c.in-Some.item
-    c.in-Some.ensures.items c.in_ok-key.ensures.group c.in_ok-key.ensures.name (sym c.if-branch.false ∙ c.in_ok-insert.ensures.added) c.in_ok-insert.ensures.updates.0 c.loop-item.invariant
+    c.in-Some.ensures.items c.in_ok-key.ensures.group c.in_ok-key.ensures.name (sym c.if-is_new.false ∙ c.in_ok-is_new.ensures.added) c.in_ok-is_new.ensures.updates.0 c.loop-item.invariant

@@ -1,6 +1,5 @@
-use Rattle.std.proofs.Common.{◌+◌, ◌∷◌, ◌++◌, ◌<◌, ◌≢◌, [], drop, get_or, length, ap, arith, refl, ◌∙◌, sym}
-use Rattle.wf_model.specs.NamelistTokens.{quoted}
-use Rattle.wf_namelist.proofs.QuotedTexts.{behind, next_other, next_line_end, next_doubled, next_closing, at_end}
+use Rattle.std.proofs.Common.{◌+◌, ◌<◌, ◌≢◌, get_or, length, arith, refl}
+use Rattle.wf_namelist.proofs.QuotedTexts.{next_other, next_line_end, next_doubled, next_closing, at_end}
 use Rattle.wf_namelist.proofs.quoted.quoted.Goals as goal
 use Rattle.wf_namelist.proofs.quoted.quoted.Goals.{else-at-bytes-via-then-at-bytes+else-bytes-at, else-at-bytes-via-else-at-bytes}
 
