@@ -6,8 +6,8 @@ use Rattle.wf_model.specs.declared.namelist.NamelistFault.{NamelistFault}
 use Rattle.wf_model.specs.declared.namelist.NamelistKind.TheVariants.{UnclosedGroup, NullValue}
 use Rattle.wf_model.specs.Letters.{Text}
 use Rattle.wf_model.specs.Namelist.{Tokens, Found, here, is_comma, is_outside, is_slash, item_name, refuse, rest, some_value, values, values_here}
-use Rattle.wf_model.specs.Reading.{◌>>=◌, Fails, Gives}
-use Rattle.wf_model.proofs.ReadingLemmas.{Fails-along, Fails-chain, Gives-along}
+use Rattle.wf_model.specs.Reading.{◌>>=◌, Fails}
+use Rattle.wf_model.proofs.ReadingLemmas.{Fails-along, Fails-chain}
 use Rattle.wf_namelist.specs.Turns.{Seen, ends, comma, found, is_behind_value, turn_at, value_or_comma}
 
 -- a chain behind one of two readings

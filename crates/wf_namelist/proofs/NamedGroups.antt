@@ -1,17 +1,15 @@
 -- What begins a group has a name.
-use Rattle.std.proofs.Common.{◌≡◌, ℕ, zero, suc, ◌+◌, Bool, true, false, cond, IsTrue, List, [], ◌∷◌, ◌++◌, drop, Option, Some, None, refl, sym, ap, ◌∙◌}
+use Rattle.std.proofs.Common.{◌≡◌, ℕ, zero, suc, ◌+◌, Bool, true, false, cond, [], ◌∷◌, drop, Option, Some, None, refl, sym, ap, ◌∙◌}
 use Rattle.std.specs.Prelude.{◌==◌, ◌&&◌, ◌||◌}
 use Rattle.std.specs.List.{list_all, take_while, prefix_len}
 use Rattle.std.proofs.lemmas.List.Folds.{list_all-append}
-use Rattle.wf_model.specs.declared.namelist.NamelistToken.{NamelistToken}
-use Rattle.wf_model.specs.declared.namelist.Sort.{Sort}
 use Rattle.wf_model.specs.declared.namelist.Sort.TheVariants as sort
 use Rattle.wf_model.specs.Letters.{Text, is_name, is_name_byte, lower}
 use Rattle.wf_model.specs.Lines.{is_blank}
 use Rattle.wf_model.specs.Namelist.{Tokens, here}
-use Rattle.wf_model.specs.NamelistTokens.{Where, line_begins, passing, in_group, in_comment, Scanned, begin_token, group_token, is_gap, is_word_byte, last_line, namelist_tokens, quoted, scan, scanned, text_token, token}
+use Rattle.wf_model.specs.NamelistTokens.{Where, line_begins, passing, in_group, in_comment, Scanned, begin_token, group_token, is_gap, namelist_tokens, quoted, scan, scanned, text_token}
 use Rattle.wf_namelist.specs.Groups.{has_name, is_named}
-use Rattle.wf_namelist.specs.Scanning.{Turn, line_ends, passes, begins, turn_at, apart_at}
+use Rattle.wf_namelist.specs.Scanning.{Turn, line_ends, passes, begins, turn_at}
 use Rattle.wf_namelist.proofs.Names.{is_name_lower}
 use Rattle.wf_namelist.proofs.ScanTurns.{go_on, turn}
 

@@ -6,7 +6,7 @@ use Rattle.std.specs.Prelude.{◌==◌}
 use Rattle.wf_model.specs.declared.namelist.NamelistToken.{NamelistToken}
 use Rattle.wf_model.specs.Letters.{Text}
 use Rattle.wf_model.specs.Lines.{is_blank}
-use Rattle.wf_model.specs.NamelistTokens.{Where, line_begins, passing, in_group, in_comment, Scanned, begin_token, group_token, is_gap, scan, token}
+use Rattle.wf_model.specs.NamelistTokens.{Where, line_begins, passing, in_group, in_comment, Scanned, is_gap, scan, token}
 use Rattle.wf_namelist.specs.Scanning.{Turn, line_ends, passes, begins, turn_at, apart_at}
 
 -- the tokens from a byte on, after what it is

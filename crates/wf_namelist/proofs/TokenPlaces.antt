@@ -1,5 +1,5 @@
 -- Places of the tokens.
-use Rattle.std.proofs.Common.{◌≡◌, ℕ, zero, suc, ◌+◌, List, [], ◌∷◌, drop, refl, add-one, sym}
+use Rattle.std.proofs.Common.{◌≡◌, ℕ, zero, suc, ◌+◌, [], ◌∷◌, drop, refl, add-one}
 use Rattle.wf_model.specs.Namelist.{Tokens, rest}
 
 -- behind a place

@@ -1,5 +1,5 @@
 -- The values of a bare word with a `*`.
-use Rattle.std.proofs.Common.{◌≡◌, ℕ, ◌+◌, ◌<◌, Bool, true, false, cond, ltb, List, [], ◌∷◌, length, take, drop, Some, None, position, refl, sym, ap, ◌∙◌, length-take, arith}
+use Rattle.std.proofs.Common.{◌≡◌, ℕ, ◌+◌, ◌<◌, Bool, true, false, cond, [], ◌∷◌, length, take, drop, Some, None, position, refl, sym, ap, ◌∙◌, length-take, arith}
 use Rattle.std.specs.Prelude.{not}
 use Rattle.std.specs.Bool.{then_some}
 use Rattle.std.specs.List.{before_first, after_first, position_or_len}

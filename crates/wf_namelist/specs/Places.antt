@@ -1,11 +1,9 @@
 -- What is read at a place of the tokens.
-use Rattle.std.specs.Prelude.{ℕ, List, Option, Some, None, drop}
-use Rattle.std.specs.declared.vec.Vec.{Vec}
+use Rattle.std.specs.Prelude.{Option, Some, None}
 use Rattle.wf_model.specs.declared.namelist.NamelistFault.{NamelistFault}
 use Rattle.wf_model.specs.declared.namelist.NamelistKind.{NamelistKind}
 use Rattle.wf_model.specs.declared.namelist.Sort.{Sort}
 use Rattle.wf_model.specs.declared.namelist.Sort.TheVariants.{EndOfText}
-use Rattle.wf_model.specs.declared.namelist.Value.{Value}
 use Rattle.wf_model.specs.Namelist.{Tokens, here}
 
 -- what is refused here
