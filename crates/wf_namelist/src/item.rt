@@ -21,7 +21,7 @@ pub(crate) type Item = (Name, Name, List<Value>);
 
 /// What stands at a place of an item's values.
 #[derive(Drop)]
-pub(crate) enum Turn {
+enum Turn {
     /// The end of the values: `/`, or the name of the next item.
     Ends,
     Comma,
@@ -31,7 +31,7 @@ pub(crate) enum Turn {
 
 /// A name in lower case.
 #[tactic(auto, using(crate::proofs::Names::is_name_lower))]
-pub(crate) fn name_of(alloc: Global, word: &[u8]) -> Result<Name, AllocError>
+fn name_of(alloc: Global, word: &[u8]) -> Result<Name, AllocError>
     requires { IsTrue (is_name word.now) }
     ensures { IfOk result (λ n. n ≡ lower word.now) }
 {
@@ -62,7 +62,7 @@ fn item_word(
 }
 
 /// The name of the item that begins here, if one does.
-pub(crate) fn item_name(
+fn item_name(
     alloc: Global,
     tokens: &[NamelistToken],
     at: usize,

@@ -13,10 +13,10 @@ use wf_model::{List, Namelist};
 
 /// The items of a text that is written as a Fortran namelist, or its first refusal with its line.
 ///
-/// A group begins where `&` is the first character of a line that is not blank, outside a group,
-/// and a name follows at once (else `NoGroup`); it ends with `/`. Text outside groups is passed
-/// over, and `!` begins a comment to the end of the line. The end of the text, or an `&`, inside a
-/// group is `UnclosedGroup`. An item is a name, `=` and one or more values (`NullValue` where none
+/// A group begins at an `&` outside groups before which only blanks stand in its line, with a name at
+/// once behind it (else `NoGroup`); it ends with `/`. Text outside groups is passed over, and `!` in a
+/// group begins a comment to the end of the line. The end of the text, or an `&`, inside a group is
+/// `UnclosedGroup`. An item is a name, `=` and one or more values (`NullValue` where none
 /// stands), which blanks, line ends or one comma part; one comma may follow the last one. A name
 /// with `(` at once behind it is `Subscript`. A value is a whole number (kept in 128 bits), a decimal
 /// number (kept as its text), a logical, a text in `'` or `"` on one line (else `UnclosedText`), or

@@ -31,7 +31,7 @@ pub(crate) fn is_apart(tokens: &[NamelistToken], at: usize) -> bool
     }
 }
 
-/// The line of a token; past the last one 0, where no reading comes.
+/// The line of a token; past the last one 0.
 fn line_at(tokens: &[NamelistToken], at: usize) -> u32
     ensures { result ≡ (here (drop at tokens.now)).line }
 {
