@@ -6,7 +6,6 @@ use Rattle.std.specs.Prelude.{ℤ}
 use Rattle.wf_model.specs.declared.expr.Expr.{Expr}
 use Rattle.wf_model.specs.declared.expr.Expr.TheVariants as expr
 use Rattle.wf_model.specs.declared.expr.Test.{Test}
-use Rattle.wf_model.specs.Reads.{Read, reads_of}
 use Rattle.wf_model.specs.ExprFacts.{Parts, no_parts, parts_of, parts_of_both, divided}
 use Rattle.wf_eval.specs.Evaluable.{IsEvaluable, AnyRead}
 use Rattle.wf_eval.proofs.Layers.{parts-Num, parts-I, parts-Read, parts-Neg, parts-Add, parts-Mul, parts-Div, parts-Mod, parts-If}

@@ -1,5 +1,5 @@
 -- What the evaluation of an expression needs, and what it answers.
-use Rattle.std.specs.Prelude.{◌≡◌, ℕ, ◌≤◌, List, [], All, ℤ, Option, Some, None, Result, Ok, Err}
+use Rattle.std.specs.Prelude.{◌≡◌, ◌≤◌, [], All, ℤ, Option, Some, None, Result, Ok, Err}
 use Rattle.wf_model.specs.declared.expr.Expr.{Expr}
 use Rattle.wf_model.specs.Reads.{Read, reads_of}
 use Rattle.wf_model.specs.ExprFacts.{parts_of}

@@ -1,13 +1,11 @@
 -- Each arm of the walk: its operands have what they need and are smaller, and its number is the expression's.
-use Rattle.std.proofs.Common.{◌≡◌, ℕ, ◌<◌, ◌^◌, refl, sym, ap, subst, ◌∙◌, rules, arith, Some, to_z, of_z, true, false}
-use Rattle.std.specs.Prelude.{ℤ, pos, ◌+ℤ◌, ◌-ℤ◌, ◌*ℤ◌, neg_ℤ, FitsSigned}
+use Rattle.std.proofs.Common.{◌≡◌, ℕ, ◌<◌, ◌^◌, sym, ap, subst, ◌∙◌, rules, arith, Some}
+use Rattle.std.specs.Prelude.{pos, ◌+ℤ◌, ◌-ℤ◌, ◌*ℤ◌, neg_ℤ, FitsSigned}
 use Rattle.std.specs.Int.{int_div_euclid, int_rem_euclid, int_min, int_max}
 use Rattle.std.proofs.lemmas.Int.{to_z-of_z}
 use mir.Syntax.{w32}
-use Rattle.wf_model.specs.declared.expr.Expr.{Expr}
 use Rattle.wf_model.specs.declared.expr.Expr.TheVariants as expr
 use Rattle.wf_model.specs.Numbers.{in_i64}
-use Rattle.wf_model.specs.Reads.{Read}
 use Rattle.wf_model.specs.ExprFacts.{nodes_of}
 use Rattle.wf_eval.specs.Evaluable.{IsEvaluable}
 use Rattle.wf_eval.proofs.Fitting.{small_is, signed_is}
