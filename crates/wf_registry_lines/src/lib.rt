@@ -11,6 +11,16 @@ ghost use Rattle.wf_model.specs.KeptLines.{registry_lines};
 ghost use Rattle.wf_model.specs.Registry.{met_of, stop_of};
 ghost use Rattle.wf_registry_lines.specs.Kept.{kept_in};
 
+mod ahead;
+mod condition;
+mod kind;
+mod progress;
+mod reader;
+#[cfg(test)]
+mod tests;
+
+use crate::progress::ReadingError;
+use crate::reader::Reader;
 use std::alloc::{AllocError, Global};
 use wf_model::{List, Name, RegistryFault, SourceFile, Word};
 
@@ -30,8 +40,18 @@ pub struct KeptLines {
     pub fault: Option<RegistryFault>,
 }
 
+/// The lines that count among these files, where these names are defined, each with a value.
+///
+/// A line counts where no ifdef around it drops it, and where it is no include, ifdef or endif. An
+/// `ifdef NAME=VALUE` keeps the lines up to its endif where NAME, ignoring case, is defined with that
+/// value. These words ignore case too. Reading stops at the first fault: the file `Registry` is
+/// missing (line 0), a text isn't UTF-8 (line 0) or has a quoted word without an end or a continued
+/// line at its end, an include names no file or one that is being read, an ifdef has no endif in its
+/// file or an endif no ifdef, an include or ifdef has no such column, or there are more than 64 files,
+/// an include counting as one, or more than 100,000 lines, dropped ones counted. It fails only where
+/// memory runs out, or where a line or a column has no number of 32 bits.
 pub fn kept_lines(
-    _alloc: Global,
+    alloc: Global,
     files: &[SourceFile],
     defines: &[(Name, Name)],
 ) -> Result<KeptLines, AllocError>
@@ -39,7 +59,20 @@ pub fn kept_lines(
     ensures fault { IfOk result (λ k. k.fault ≡ stop_of (registry_lines files.now defines.now)) }
     ensures places { IfOk result (λ k. All (λ l. l.file < length files.now) k.lines.items) }
 {
-    let _ = files.len();
-    let _ = defines.len();
-    Err(AllocError)
+    let reader = Reader {
+        alloc,
+        files,
+        defines,
+    };
+    match reader.registry() {
+        Ok(progress) => Ok(KeptLines {
+            lines: progress.kept,
+            fault: None,
+        }),
+        Err(ReadingError::Stopped(stopped)) => Ok(KeptLines {
+            lines: stopped.progress.kept,
+            fault: Some(stopped.fault),
+        }),
+        Err(ReadingError::Memory) => Err(AllocError),
+    }
 }
