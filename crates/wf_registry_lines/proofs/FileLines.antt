@@ -1,19 +1,20 @@
 -- A file is its lines, and then the fault of its text.
-use Rattle.std.proofs.Common.{◌≡◌, ℕ, ◌<◌, Bool, true, false, cond, List, length, get_or, reverse, Option, Some, Result, refl, sym, ap, ◌∙◌}
+use Rattle.std.proofs.Common.{◌≡◌, ℕ, ◌<◌, Bool, true, false, cond, List, length, get_or, reverse, Option, Some, None, Result, Ok, refl, sym, ap, ◌∙◌}
 use Rattle.std.specs.Prelude.{is_some, slice_get}
 use Rattle.std.specs.Str.{IsUtf8, is_utf8}
 use Rattle.std.proofs.lemmas.Str.{IsUtf8-from_is_utf8, is_utf8-from_IsUtf8}
 use Rattle.wf_model.specs.declared.registry.SourceFile.{SourceFile}
-use Rattle.wf_model.specs.declared.registry.RegistryKind.TheVariants.{NotText}
+use Rattle.wf_model.specs.declared.registry.RegistryKind.TheVariants.{BadText, NotText}
 use Rattle.wf_model.specs.declared.text.Line.{Line}
 use Rattle.wf_model.specs.declared.text.TextFault.{TextFault}
 use Rattle.wf_model.specs.Letters.{Text}
 use Rattle.wf_model.specs.Lines.{lines_read}
-use Rattle.wf_model.specs.Reading.{◌>>=◌}
-use Rattle.wf_model.specs.KeptLines.{Defines, Includes, Met, Stop, Within, lines_met, stop, text_met}
+use Rattle.wf_model.specs.Reading.{◌>>=◌, Fails}
+use Rattle.wf_model.specs.KeptLines.{fault_line, Defines, Includes, Met, Stop, Within, lines_met, stop, text_met}
 use Rattle.wf_registry_lines.specs.Ahead.{ahead_met, file_at_met, marks}
 use Rattle.wf_registry_lines.specs.Kept.{name_at, name_of}
 use Rattle.wf_registry_lines.specs.declared.ahead.AheadLine.{AheadLine}
+use Rattle.wf_model.proofs.ReadingLemmas.{Fails-along, Fails-chain}
 use Rattle.wf_registry_lines.proofs.LinesAhead.{ahead_met-marks}
 use Rattle.wf_registry_lines.proofs.Places.{file_here}
 
@@ -51,18 +52,37 @@ module _ (defines : Defines) (include : Includes) (met : Met) (files : List Sour
   text_is : bytes ≡ f.text
   text_is = same ∙ ap (λ (g : SourceFile). g.text) (sym is)
 
-  -- the file at a place, where its text is read
-  pub file_read : (text : List ℕ) (lines : List Line) (fault : Option TextFault) (faulty : Bool) (ahead : List AheadLine)
-      → text ≡ bytes → IsUtf8 bytes → lines ≡ (lines_read text).lines → fault ≡ (lines_read text).fault → faulty ≡ is_some fault → reverse ahead ≡ marks faulty lines
-      → file_at_met defines include met (slice_get files place) ≡ (ahead_met defines include (name_at files place) met outside (reverse ahead) >>= text_met fault (name_at files place))
-  file_read text lines fault faulty ahead et utf8 el ef eb ea =
-      file_is defines include met files place f (file_here files place f within is) lines fault ahead
-      (ap is_utf8 (sym text_is) ∙ is_utf8-from_IsUtf8 bytes utf8)
-      (el ∙ ap (λ (t : List ℕ). (lines_read t).lines) (et ∙ text_is))
-      (ef ∙ ap (λ (t : List ℕ). (lines_read t).fault) (et ∙ text_is))
-      (ea ∙ ap (λ b. marks b lines) eb)
-
   -- the file at a place, where its text isn't UTF-8
   pub file_not_text : (IsUtf8 bytes → ⊥) → file_at_met defines include met (slice_get files place) ≡ stop met (name_at files place) 0 NotText
   file_not_text wrong =
       no_text defines include met files place f (file_here files place f within is) (ap is_utf8 (sym text_is) ∙ never_true (is_utf8 bytes) (λ e. wrong (IsUtf8-from_is_utf8 bytes e)))
+
+  module _ (text : List ℕ) (lines : List Line) (fault : Option TextFault) (faulty : Bool) (ahead : List AheadLine)
+      (et : text ≡ bytes) (utf8 : IsUtf8 bytes) (el : lines ≡ (lines_read text).lines) (ef : fault ≡ (lines_read text).fault) (eb : faulty ≡ is_some fault) (ea : reverse ahead ≡ marks faulty lines) where
+    -- the file at a place, where its text is read
+    file_read : file_at_met defines include met (slice_get files place) ≡ (ahead_met defines include (name_at files place) met outside (reverse ahead) >>= text_met fault (name_at files place))
+    file_read =
+        file_is defines include met files place f (file_here files place f within is) lines fault ahead
+        (ap is_utf8 (sym text_is) ∙ is_utf8-from_IsUtf8 bytes utf8)
+        (el ∙ ap (λ (t : List ℕ). (lines_read t).lines) (et ∙ text_is))
+        (ef ∙ ap (λ (t : List ℕ). (lines_read t).fault) (et ∙ text_is))
+        (ea ∙ ap (λ b. marks b lines) eb)
+
+    -- reading stops among its lines
+    pub file_stops : (stopped : Option Stop) → Fails stopped (ahead_met defines include (name_at files place) met outside (reverse ahead)) → Fails stopped (file_at_met defines include met (slice_get files place))
+    file_stops stopped fails =
+        Fails-along stopped (ahead_met defines include (name_at files place) met outside (reverse ahead) >>= text_met fault (name_at files place)) (file_at_met defines include met (slice_get files place)) (sym file_read)
+        (Fails-chain stopped (ahead_met defines include (name_at files place) met outside (reverse ahead)) (text_met fault (name_at files place)) fails)
+
+    module _ (m : Met) (ok : ahead_met defines include (name_at files place) met outside (reverse ahead) ≡ Ok m) where
+      lines_ok : file_at_met defines include met (slice_get files place) ≡ text_met fault (name_at files place) m
+      lines_ok = file_read ∙ ap (λ (r : Result Met Stop). r >>= text_met fault (name_at files place)) ok
+
+      -- its text has no fault
+      pub file_whole : fault ≡ None → file_at_met defines include met (slice_get files place) ≡ Ok m
+      file_whole none = lines_ok ∙ ap (λ (t : Option TextFault). text_met t (name_at files place) m) none
+
+      -- its text has a fault, which is met after its lines
+      pub file_faulty : (t : TextFault) (n : ℕ) → fault ≡ Some t → n ≡ fault_line t → file_at_met defines include met (slice_get files place) ≡ stop m (name_at files place) n BadText
+      file_faulty t n some number =
+          lines_ok ∙ ap (λ (t : Option TextFault). text_met t (name_at files place) m) some ∙ ap (λ n. let r : Result Met Stop = stop m (name_at files place) n BadText in r) (sym number)

@@ -1,17 +1,16 @@
-use Rattle.std.proofs.Common.{◌≡◌, ◌∙◌, ◌+◌, ◌-◌, ◌∷◌, [], length, map, reverse, length-append, ap, sym, arith, subst, Result}
+use Rattle.std.proofs.Common.{◌≡◌, ◌∙◌, ◌+◌, ◌-◌, ◌∷◌, [], length, map, length-append, ap, sym, arith, subst}
 use Rattle.std.specs.Prelude.{slice_get}
 use Rattle.std.proofs.lemmas.List.{nil_from_length}
 use Rattle.std.proofs.lemmas.Result.{err_from_is_err_and}
-use Rattle.wf_model.proofs.ReadingLemmas.{Fails-along, Fails-chain, Gives-along}
+use Rattle.wf_model.proofs.ReadingLemmas.{Gives-along}
 use Rattle.wf_model.specs.declared.registry.RegistryKind.TheVariants.{BadText, IncludeLoop, MissingInclude, NotText, TooLong}
 use Rattle.wf_model.specs.Letters.{Text}
-use Rattle.wf_model.specs.Reading.{◌>>=◌}
-use Rattle.wf_model.specs.KeptLines.{Met, Stop, one_file, stop, text_met}
-use Rattle.wf_registry_lines.specs.Ahead.{ahead_met, entered_met, file_at_met}
+use Rattle.wf_model.specs.KeptLines.{one_file}
+use Rattle.wf_registry_lines.specs.Ahead.{entered_met, file_at_met}
 use Rattle.wf_registry_lines.specs.Kept.{name_at}
 use Rattle.wf_registry_lines.specs.Met.{IsStop, entered_in, includes_at, met_in, seen_in, within_in}
 use Rattle.wf_registry_lines.proofs.Conditions.{ifdef_read}
-use Rattle.wf_registry_lines.proofs.FileLines.{file_not_text, file_read, outside}
+use Rattle.wf_registry_lines.proofs.FileLines.{file_faulty, file_not_text, file_stops, file_whole}
 use Rattle.wf_registry_lines.proofs.Includes.{is_read, many_files, no_depth, not_there, there}
 use Rattle.wf_registry_lines.proofs.LinesAhead.{all_read, next_fails, next_read}
 use Rattle.wf_registry_lines.proofs.Stops.{stop_fails}
@@ -60,7 +59,8 @@ pub file-returns-in_default-clause-read : goal.file-returns-in_default-clause-re
 file-returns-in_default-clause-read t c =
     let files = c.args.self.now.files.now in
     let defines = c.args.self.now.defines.now in
-    stop_fails files c.args.progress (name_at files c.args.place) 0 NotText c.stop.result _ c.stop.ensures
+    stop_fails files c.args.progress (name_at files c.args.place) 0 NotText c.stop.result
+    (file_at_met defines (includes_at c.args.depth files defines c.args.reading.now) (met_in files c.args.progress) (slice_get files c.args.place)) c.stop.ensures
     (file_not_text defines (includes_at c.args.depth files defines c.args.reading.now) (met_in files c.args.progress) files c.args.place c.index-self-place.result c.requires.place c.index-self-place.is
     c.as_slice.result.now c.as_slice.ensures c.in_default.ensures.cases.0)
 
@@ -68,44 +68,39 @@ pub file-returns-in_err-progress-clause-read : goal.file-returns-in_err-progress
 file-returns-in_err-progress-clause-read t c =
     let files = c.args.self.now.files.now in
     let defines = c.args.self.now.defines.now in
-    let read = file_read defines (includes_at c.args.depth files defines c.args.reading.now) (met_in files c.args.progress) files c.args.place c.index-self-place.result c.requires.place c.index-self-place.is
-    c.as_slice.result.now c.as_slice.ensures c.in-Ok.text.now c.in_ok-read.read.lines.items c.in_ok-read.read.fault c.is_some.result c.in_ok-ahead.ahead.items
-    c.in-Ok.ensures.cases.0 c.in-Ok.ensures.cases.1 c.in_ok-read.ensures.lines c.in_ok-read.ensures.fault c.is_some.ensures c.in_ok-ahead.ensures in
     let p = err_from_is_err_and c.from_residual-in_err-progress.result c.from_residual-in_err-progress.ensures.1 in
-    let e = seen_in files c.in_err-progress.field-0.0 in
-    rw (p.1, p.2) (Fails-along e
-    (ahead_met defines (includes_at c.args.depth files defines c.args.reading.now) (name_at files c.args.place) (met_in files c.args.progress) outside (reverse c.in_ok-ahead.ahead.items) >>= text_met c.in_ok-read.read.fault (name_at files c.args.place))
-    (file_at_met defines (includes_at c.args.depth files defines c.args.reading.now) (met_in files c.args.progress) (slice_get files c.args.place))
-    (sym read) (Fails-chain e (ahead_met defines (includes_at c.args.depth files defines c.args.reading.now) (name_at files c.args.place) (met_in files c.args.progress) outside (reverse c.in_ok-ahead.ahead.items)) (text_met c.in_ok-read.read.fault (name_at files c.args.place)) c.in_err-progress.ensures.read))
+    rw (p.1, p.2) (file_stops defines (includes_at c.args.depth files defines c.args.reading.now) (met_in files c.args.progress) files c.args.place c.index-self-place.result c.requires.place c.index-self-place.is
+    c.as_slice.result.now c.as_slice.ensures c.in-Ok.text.now c.in_ok-read.read.lines.items c.in_ok-read.read.fault c.is_some.result c.in_ok-ahead.ahead.items
+    c.in-Ok.ensures.cases.0 c.in-Ok.ensures.cases.1 c.in_ok-read.ensures.lines c.in_ok-read.ensures.fault c.is_some.ensures c.in_ok-ahead.ensures
+    (seen_in files c.in_err-progress.field-0.0) c.in_err-progress.ensures.read)
 
 pub file-returns-in-None-clause-read : goal.file-returns-in-None-clause-read
 file-returns-in-None-clause-read t c =
     let files = c.args.self.now.files.now in
     let defines = c.args.self.now.defines.now in
-    let read = file_read defines (includes_at c.args.depth files defines c.args.reading.now) (met_in files c.args.progress) files c.args.place c.index-self-place.result c.requires.place c.index-self-place.is
+    file_whole defines (includes_at c.args.depth files defines c.args.reading.now) (met_in files c.args.progress) files c.args.place c.index-self-place.result c.requires.place c.index-self-place.is
     c.as_slice.result.now c.as_slice.ensures c.in-Ok.text.now c.in_ok-read.read.lines.items c.in_ok-read.read.fault c.is_some.result c.in_ok-ahead.ahead.items
-    c.in-Ok.ensures.cases.0 c.in-Ok.ensures.cases.1 c.in_ok-read.ensures.lines c.in_ok-read.ensures.fault c.is_some.ensures c.in_ok-ahead.ensures in
-    read ∙ ap (λ (r : Result Met Stop). r >>= text_met c.in_ok-read.read.fault (name_at files c.args.place)) c.in_ok-progress.ensures.read
-    ∙ ap (λ fault. text_met fault (name_at files c.args.place) (met_in files c.in_ok-progress.progress)) c.in-None.is
+    c.in-Ok.ensures.cases.0 c.in-Ok.ensures.cases.1 c.in_ok-read.ensures.lines c.in_ok-read.ensures.fault c.is_some.ensures c.in_ok-ahead.ensures
+    (met_in files c.in_ok-progress.progress) c.in_ok-progress.ensures.read c.in-None.is
 
 pub file-returns-in-Some-clause-read : goal.file-returns-in-Some-clause-read
 file-returns-in-Some-clause-read t c =
     let files = c.args.self.now.files.now in
     let defines = c.args.self.now.defines.now in
-    let read = file_read defines (includes_at c.args.depth files defines c.args.reading.now) (met_in files c.args.progress) files c.args.place c.index-self-place.result c.requires.place c.index-self-place.is
+    stop_fails files c.in_ok-progress.progress (name_at files c.args.place) c.fault_line.result BadText c.stop-in-Some.result
+    (file_at_met defines (includes_at c.args.depth files defines c.args.reading.now) (met_in files c.args.progress) (slice_get files c.args.place)) c.stop-in-Some.ensures
+    (file_faulty defines (includes_at c.args.depth files defines c.args.reading.now) (met_in files c.args.progress) files c.args.place c.index-self-place.result c.requires.place c.index-self-place.is
     c.as_slice.result.now c.as_slice.ensures c.in-Ok.text.now c.in_ok-read.read.lines.items c.in_ok-read.read.fault c.is_some.result c.in_ok-ahead.ahead.items
-    c.in-Ok.ensures.cases.0 c.in-Ok.ensures.cases.1 c.in_ok-read.ensures.lines c.in_ok-read.ensures.fault c.is_some.ensures c.in_ok-ahead.ensures in
-    stop_fails files c.in_ok-progress.progress (name_at files c.args.place) c.fault_line.result BadText c.stop-in-Some.result _ c.stop-in-Some.ensures
-    (read ∙ ap (λ (r : Result Met Stop). r >>= text_met c.in_ok-read.read.fault (name_at files c.args.place)) c.in_ok-progress.ensures.read
-    ∙ ap (λ fault. text_met fault (name_at files c.args.place) (met_in files c.in_ok-progress.progress)) c.in-Some.is
-    ∙ ap (λ n. let r : Result Met Stop = stop (met_in files c.in_ok-progress.progress) (name_at files c.args.place) n BadText in r) (sym c.fault_line.ensures))
+    c.in-Ok.ensures.cases.0 c.in-Ok.ensures.cases.1 c.in_ok-read.ensures.lines c.in_ok-read.ensures.fault c.is_some.ensures c.in_ok-ahead.ensures
+    (met_in files c.in_ok-progress.progress) c.in_ok-progress.ensures.read c.in-Some.fault c.fault_line.result c.in-Some.is c.fault_line.ensures)
 
 pub named-returns-then-depth-eq0-clause-read : goal.named-returns-then-depth-eq0-clause-read
 named-returns-then-depth-eq0-clause-read t c =
     let files = c.args.self.now.files.now in
     let defines = c.args.self.now.defines.now in
     let names = map (name_at files) c.args.reading.now in
-    stop_fails files c.args.progress (name_at files c.args.place) c.args.line TooLong c.stop.result _ c.stop.ensures
+    stop_fails files c.args.progress (name_at files c.args.place) c.args.line TooLong c.stop.result
+    (includes_at c.args.depth files c.args.self.now.defines.now c.args.reading.now (met_in files c.args.progress) (name_at files c.args.place) c.args.line c.args.name.now) c.stop.ensures
     (elim c.then-depth-eq0.branch [
       | named-then-depth-eq0-via-then-depth-eq0 w ↦ no_depth c.args.depth files defines names (met_in files c.args.progress) (name_at files c.args.place) c.args.line c.args.name.now w.if-depth-eq0.true
       | named-then-depth-eq0-via-else-depth-eq0+then-progress-ge-MOST_FILES w ↦ many_files c.args.depth files defines names (met_in files c.args.progress) (name_at files c.args.place) c.args.line c.args.name.now w.if-progress-ge-MOST_FILES.true
@@ -114,14 +109,14 @@ named-returns-then-depth-eq0-clause-read t c =
 pub named-returns-then-is_among-clause-read : goal.named-returns-then-is_among-clause-read
 named-returns-then-is_among-clause-read t c =
     let files = c.args.self.now.files.now in
-    stop_fails files c.args.progress (name_at files c.args.place) c.args.line IncludeLoop c.stop-then-is_among.result _ c.stop-then-is_among.ensures
+    stop_fails files c.args.progress (name_at files c.args.place) c.args.line IncludeLoop c.stop-then-is_among.result (includes_at c.args.depth files c.args.self.now.defines.now c.args.reading.now (met_in files c.args.progress) (name_at files c.args.place) c.args.line c.args.name.now) c.stop-then-is_among.ensures
     (is_read c.args.depth files c.args.self.now.defines.now (map (name_at files) c.args.reading.now) (met_in files c.args.progress) (name_at files c.args.place) c.args.line c.args.name.now
     (omega arith) (omega arith) (sym c.is_among.ensures ∙ c.if-is_among.true))
 
 pub named-returns-in_ok-from_slice-in-None-clause-read : goal.named-returns-in_ok-from_slice-in-None-clause-read
 named-returns-in_ok-from_slice-in-None-clause-read t c =
     let files = c.args.self.now.files.now in
-    stop_fails files c.args.progress (name_at files c.args.place) c.args.line (MissingInclude c.args.name.now) c.stop-in-None.result _
+    stop_fails files c.args.progress (name_at files c.args.place) c.args.line (MissingInclude c.args.name.now) c.stop-in-None.result (includes_at c.args.depth files c.args.self.now.defines.now c.args.reading.now (met_in files c.args.progress) (name_at files c.args.place) c.args.line c.args.name.now)
     (subst (λ (wanted : Text). IsStop c.args.progress (name_at files c.args.place) c.args.line (MissingInclude wanted) c.stop-in-None.result)
     (c.from_vec-wanted.ensures ∙ c.in_ok-from_slice-in-None.ensures.items) c.stop-in-None.ensures)
     (not_there c.args.depth files c.args.self.now.defines.now (map (name_at files) c.args.reading.now) (met_in files c.args.progress) (name_at files c.args.place) c.args.line c.args.name.now
