@@ -44,12 +44,20 @@ pub struct KeptLines {
 ///
 /// A line counts where no ifdef around it drops it, and where it is no include, ifdef or endif. An
 /// `ifdef NAME=VALUE` keeps the lines up to its endif where NAME, ignoring case, is defined with that
-/// value. These words ignore case too. Reading stops at the first fault: the file `Registry` is
-/// missing (line 0), a text isn't UTF-8 (line 0) or has a quoted word without an end or a continued
-/// line at its end, an include names no file or one that is being read, an ifdef has no endif in its
-/// file or an endif no ifdef, an include or ifdef has no such column, or there are more than 64 files,
-/// an include counting as one, or more than 100,000 lines, dropped ones counted. It fails only where
-/// memory runs out, or where a line or a column has no number of 32 bits.
+/// very value; the words `include`, `ifdef` and `endif` ignore case too. Reading stops at the first
+/// fault, in reading order:
+///
+/// - `MissingFile`, line 0: there is no file `Registry`;
+/// - `NotText`, line 0: a file that is read isn't UTF-8;
+/// - `BadText`: a quoted word has no end, or a continued line ends the text; the lines before count;
+/// - `MissingInclude`: there is no file with the name that an include has;
+/// - `IncludeLoop`: the file that an include names is being read;
+/// - `UnclosedIf`: an ifdef where lines are kept has no endif in its file, whose text has no fault;
+/// - `StrayEndif`: an endif has no ifdef in its file;
+/// - `Columns`: an include has no name, or an ifdef where lines are kept no `NAME=VALUE`;
+/// - `TooLong`: an include would be the 65th file, or a line the 100,001st of all, dropped ones counted.
+///
+/// The call fails only where memory runs out, or where a line or a column has no number of 32 bits.
 pub fn kept_lines(
     alloc: Global,
     files: &[SourceFile],

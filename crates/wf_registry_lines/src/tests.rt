@@ -165,6 +165,19 @@ fn reading_stops_at_the_first_fault(rt: HostRuntime) -> Result<(), Fail> {
             "1:1 a|0:1 b|!b:2 IncludeLoop",
         ),
         ("include b", "\ninclude b", "!b:2 IncludeLoop"),
+    ] {
+        assert_eq!(rt;
+            answer(&rt, registry, b)?.as_str(),
+            lines,
+            "in {registry:?}"
+        );
+    }
+    Ok(())
+}
+
+#[test]
+fn ifdefs_are_closed_conditions(rt: HostRuntime) -> Result<(), Fail> {
+    for (registry, b, lines) in [
         ("a\nifdef X=1\nb\n", "", "1:1 a|!Registry:2 UnclosedIf"),
         ("ifdef X=1\nifdef X=1\nendif", "", "!Registry:1 UnclosedIf"),
         ("ifdef X=1\ninclude b", "endif", "!Registry:1 UnclosedIf"),
@@ -234,14 +247,12 @@ fn sixty_fifth_file(rt: HostRuntime) -> Result<(), Fail> {
 }
 
 #[test]
-fn hostile_texts_are_answered(rt: HostRuntime) -> Result<(), Fail> {
-    assert_eq!(rt; answer(&rt, "\0 \0\n", "")?.as_str(), "1:1 \0 \0|");
-    let text = repeated(&rt, "ifdef X=1\n", 50_000)?;
+fn many_ifdefs_are_read(rt: HostRuntime) -> Result<(), Fail> {
+    let mut text = repeated(&rt, "ifdef X=1\n", 50_000)?;
     assert_eq!(rt;
         answer(&rt, text.as_str(), "")?.as_str(),
         "!Registry:1 UnclosedIf"
     );
-    let mut text = text;
     text.push_str(repeated(&rt, "endif\n", 50_000)?.as_str())?;
     assert_eq!(rt; answer(&rt, text.as_str(), "")?.as_str(), "");
     text.push('a')?;
@@ -249,8 +260,19 @@ fn hostile_texts_are_answered(rt: HostRuntime) -> Result<(), Fail> {
         answer(&rt, text.as_str(), "")?.as_str(),
         "!Registry:100001 TooLong"
     );
+    Ok(())
+}
+
+#[test]
+fn hostile_texts_are_answered(rt: HostRuntime) -> Result<(), Fail> {
+    assert_eq!(rt; answer(&rt, "\0 \0\n", "")?.as_str(), "1:1 \0 \0|");
     let text = repeated(&rt, "a", 1_000_000)?;
     assert_eq!(rt; answer(&rt, text.as_str(), "")?.len(), 1_000_005);
+    Ok(())
+}
+
+#[test]
+fn lines_past_the_most_are_refused(rt: HostRuntime) -> Result<(), Fail> {
     let text = repeated(&rt, "a\n", 100_001)?;
     let mut files = Vec::new(rt.alloc());
     files.push(source(&rt, "Registry", text.as_bytes())?)?;
