@@ -1,0 +1,129 @@
+-- Factors, terms and expressions by their room, and the parts that they are read in.
+use Rattle.std.proofs.Common.{◌≡◌, ℕ, zero, suc, ◌+◌, ◌-◌, ◌<◌, ◌≤◌, Bool, true, false, List, length, Option, Some, None, Result, Ok, Err, refl, sym, ap, ap₂, ◌∙◌, arith, if◌then◌else◌, lit<}
+use Rattle.std.specs.Prelude.{codes}
+use Rattle.std.specs.Str.{bytes_eq}
+use Rattle.wf_model.specs.declared.expr.Expr.{Expr, roll-Expr}
+use Rattle.wf_model.specs.declared.expr.Args.TheOpen as e
+use Rattle.wf_model.specs.declared.table.Names.{Names}
+use Rattle.wf_model.specs.declared.table.TableKind.{TableKind}
+use Rattle.wf_model.specs.Reading.{◌>>=◌}
+use Rattle.wf_model.specs.Letters.{is_digits}
+use Rattle.wf_model.specs.TableNames.{level, most_dk}
+use Rattle.wf_model.specs.Tokens.{At, Reader, keyword}
+use Rattle.wf_model.specs.ExprText.{Tree, tree, node, all_arguments, call, choice, expr, factor_of, factors_below, leaf, most_depth, negation, numeral, pair, parenthesis, products, read, sums, term, whole_expr}
+use Rattle.wf_model.proofs.FactorRoom.{below-room}
+use Rattle.wf_model.proofs.ReadingLemmas.{chain_assoc}
+use Rattle.wf_table.specs.declared.start.Start.{Start}
+use Rattle.wf_table.specs.declared.start.Start.TheVariants as start
+use Rattle.wf_table.specs.declared.tree.Binary.{Binary}
+use Rattle.wf_table.specs.declared.tree.Binary.TheVariants as binary
+use Rattle.wf_table.specs.Start.{start_of, word_start}
+use Rattle.wf_table.specs.Expressions.{branches_of, call_of, called_at, chain, choice_of, condition_of, expr_at, factor_at, inside_and, made, offset_and, offsets, pair_of, product_turns, sum_turns, term_at}
+use Rattle.wf_table.proofs.Chains.{Found, products-chain, sums-chain}
+
+-- ---- parts
+
+-- a read
+pub read_is : (names : Names) (at : At) → read names at ≡ (level names at >>= λ f. node f.1 >>= λ c. offsets (most_dk names f.0) c >>= λ o. Ok (tree (roll-Expr (e.Read f.0 (o.0).0 (o.0).1 (o.0).2)) 1, o.1))
+unfolding offsets
+read_is names at = simp chain_assoc
+
+-- `min` and `max`
+pub pair_is : (op : Binary) (inside : Reader Tree) (at : At) → pair (made op) inside at ≡ pair_of op inside at
+unfolding pair_of inside_and
+pair_is op inside at = simp chain_assoc
+
+-- `if`
+pub choice_is : (inside : Reader Tree) (at : At) → choice inside at ≡ choice_of inside at
+unfolding choice_of condition_of branches_of inside_and
+choice_is inside at = simp chain_assoc
+
+-- `call`
+pub call_is : (names : Names) (inside : Reader Tree) (at : At) → call names inside at ≡ (called_at names at >>= λ h. all_arguments inside h.1 >>= λ as_. call_of h.0 as_.0 as_.1)
+unfolding called_at call_of
+call_is names inside at = simp chain_assoc
+
+-- ---- a factor by its first token
+
+abbrev pub started : Names → Reader Tree → Reader Tree → Start → Reader Tree
+started names inside factor start.Parenthesis at = parenthesis inside at
+started names inside factor start.Minus at = negation factor at
+started names inside factor start.Digits at = numeral at
+started names inside factor start.I at = leaf (roll-Expr e.I) at
+started names inside factor start.J at = leaf (roll-Expr e.J) at
+started names inside factor start.K at = leaf (roll-Expr e.K) at
+started names inside factor start.Step at = leaf (roll-Expr e.Step) at
+started names inside factor start.Min at = pair (made binary.Least) inside at
+started names inside factor start.Max at = pair (made binary.Greatest) inside at
+started names inside factor start.If at = choice inside at
+started names inside factor start.Call at = call names inside at
+started names inside factor start.Field at = read names at
+
+by_test : (f : Start → Found) (test : Bool) (x y : Start) (other : Found) → other ≡ f y → (if test then f x else other) ≡ f (if test then x else y)
+by_test f true x y other same = refl
+by_test f false x y other same = same
+
+pub factor_of-started : (names : Names) (inside factor : Reader Tree) (at : At) → factor_of names inside factor at ≡ started names inside factor (start_of (keyword at)) at
+unfolding start_of word_start
+factor_of-started names inside factor at =
+    let f : Start → Found = λ s. started names inside factor s at in
+    let word = keyword at in
+    by_test f (bytes_eq word (codes "(")) start.Parenthesis _ _
+    (by_test f (bytes_eq word (codes "-")) start.Minus _ _
+    (by_test f (is_digits word) start.Digits _ _
+    (by_test f (bytes_eq word (codes "i")) start.I _ _
+    (by_test f (bytes_eq word (codes "j")) start.J _ _
+    (by_test f (bytes_eq word (codes "k")) start.K _ _
+    (by_test f (bytes_eq word (codes "step")) start.Step _ _
+    (by_test f (bytes_eq word (codes "min")) start.Min _ _
+    (by_test f (bytes_eq word (codes "max")) start.Max _ _
+    (by_test f (bytes_eq word (codes "if")) start.If _ _
+    (by_test f (bytes_eq word (codes "call")) start.Call start.Field (read names at) refl))))))))))
+
+-- ---- terms and expressions by their room
+
+term_is : (factors : ℕ → Reader Tree) (names : Names) (room : ℕ) → factors room ≡ factor_at names room → factors (room - 1) ≡ factor_at names (room - 1) → term factors room ≡ term_at names room
+unfolding term_at
+term_is factors names room here less = λ i at. step at i
+  where
+    step : (at : At) → term factors room at ≡ (factor_at names room at >>= λ first. chain (product_turns (factor_at names (room - 1)) room) (length at.tokens) first.0 first.1)
+    step at =
+      ap (λ (f : Reader Tree). f at >>= λ first. products (factors (room - 1)) room (length at.tokens) first.0 first.1) here
+      ∙ ap (λ (f : Reader Tree). factor_at names room at >>= λ first. products f room (length at.tokens) first.0 first.1) less
+      ∙ ap (λ (g : Tree × At → Found). factor_at names room at >>= g) (λ i first. products-chain (factor_at names (room - 1)) room (length at.tokens) first.0 first.1 i)
+
+expr_is : (factors : ℕ → Reader Tree) (names : Names) (room : ℕ) → factors room ≡ factor_at names room → factors (room - 1) ≡ factor_at names (room - 1)
+    → factors (room - 1 - 1) ≡ factor_at names (room - 1 - 1) → (at : At) → expr factors room at ≡ expr_at names room at
+unfolding expr_at
+expr_is factors names room here less least at =
+    ap (λ (f : Reader Tree). f at >>= λ first. sums (term factors (room - 1)) room (length at.tokens) first.0 first.1) (term_is factors names room here less)
+    ∙ ap (λ (f : Reader Tree). term_at names room at >>= λ first. sums f room (length at.tokens) first.0 first.1) (term_is factors names (room - 1) less least)
+    ∙ ap (λ (g : Tree × At → Found). term_at names room at >>= g) (λ i first. sums-chain (term_at names (room - 1)) room (length at.tokens) first.0 first.1 i)
+
+-- the factors below a room are those of their room
+below_is : (names : Names) (n room : ℕ) → room < n → factors_below names n room ≡ factor_at names room
+unfolding factor_at
+below_is names n room small = below-room names n room small
+
+-- an expression of the factors below a greater room
+below_expr : (names : Names) (n room : ℕ) → room < n → (at : At) → expr (factors_below names n) room at ≡ expr_at names room at
+below_expr names n room small at =
+    expr_is (factors_below names n) names room (below_is names n room small) (below_is names n (room - 1) (omega arith)) (below_is names n (room - 1 - 1) (omega arith)) at
+
+first_of : (names : Names) (less : ℕ) (at : At) → factor_at names (suc less) at ≡ factor_of names (expr (factors_below names (suc less)) less) (factors_below names (suc less) less) at
+unfolding factor_at
+first_of names less at = refl
+
+-- a factor with room, by its first token
+pub factor_is : (names : Names) (less : ℕ) (at : At) → factor_at names (suc less) at ≡ started names (expr_at names less) (factor_at names less) (start_of (keyword at)) at
+factor_is names less at =
+    let small : less < suc less = omega arith in
+    first_of names less at
+    ∙ ap (λ (inside : Reader Tree). factor_of names inside (factors_below names (suc less) less) at) (λ i a. below_expr names (suc less) less small a i)
+    ∙ ap (λ (factor : Reader Tree). factor_of names (expr_at names less) factor at) (below_is names (suc less) less small)
+    ∙ factor_of-started names (expr_at names less) (factor_at names less) at
+
+-- an expression of the table
+pub whole_is : (names : Names) (at : At) → whole_expr names at ≡ expr_at names 64 at
+unfolding whole_expr
+whole_is names at = below_expr names 65 64 (lit< tt) at
