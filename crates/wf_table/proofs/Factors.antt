@@ -1,11 +1,12 @@
 -- Factors, terms and expressions by their room, and the parts that they are read in.
-use Rattle.std.proofs.Common.{◌≡◌, ℕ, zero, suc, ◌+◌, ◌-◌, ◌<◌, ◌≤◌, Bool, true, false, List, length, Option, Some, None, Result, Ok, Err, refl, sym, ap, ap₂, ◌∙◌, arith, if◌then◌else◌, lit<}
+use Rattle.std.proofs.Common.{◌≡◌, ℕ, zero, suc, ◌+◌, ◌-◌, ◌<◌, ◌≤◌, Bool, true, false, List, length, Option, Some, None, Result, Ok, Err, refl, sym, ap, ap₂, ◌∙◌, arith, if◌then◌else◌, lit<, sub-one}
 use Rattle.std.specs.Prelude.{codes}
 use Rattle.std.specs.Str.{bytes_eq}
 use Rattle.wf_model.specs.declared.expr.Expr.{Expr, roll-Expr}
 use Rattle.wf_model.specs.declared.expr.Args.TheOpen as e
 use Rattle.wf_model.specs.declared.table.Names.{Names}
 use Rattle.wf_model.specs.declared.table.TableKind.{TableKind}
+use Rattle.wf_model.specs.declared.table.TableKind.TheVariants.{TooDeep}
 use Rattle.wf_model.specs.Reading.{◌>>=◌}
 use Rattle.wf_model.specs.Letters.{is_digits}
 use Rattle.wf_model.specs.TableNames.{level, most_dk}
@@ -18,67 +19,77 @@ use Rattle.wf_table.specs.declared.start.Start.TheVariants as start
 use Rattle.wf_table.specs.declared.tree.Binary.{Binary}
 use Rattle.wf_table.specs.declared.tree.Binary.TheVariants as binary
 use Rattle.wf_table.specs.Start.{start_of, word_start}
-use Rattle.wf_table.specs.Expressions.{branches_of, call_of, called_at, chain, choice_of, condition_of, expr_at, factor_at, inside_and, made, offset_and, offsets, pair_of, product_turns, sum_turns, term_at}
+use Rattle.wf_table.specs.Expressions.{branches_of, call_at, call_of, called_at, chain, choice_of, condition_of, expr_at, factor_at, inside_and, made, negation_of, offsets, pair_of, parenthesis_of, product_turns, read_of, sum_turns, term_at}
 use Rattle.wf_table.proofs.Chains.{Found, products-chain, sums-chain}
 
 -- ---- parts
 
 -- a read
-pub read_is : (names : Names) (at : At) → read names at ≡ (level names at >>= λ f. node f.1 >>= λ c. offsets (most_dk names f.0) c >>= λ o. Ok (tree (roll-Expr (e.Read f.0 (o.0).0 (o.0).1 (o.0).2)) 1, o.1))
-unfolding offsets
+read_is : (names : Names) (at : At) → read names at ≡ read_of names at
+unfolding read_of offsets
 read_is names at = simp chain_assoc
 
 -- `min` and `max`
-pub pair_is : (op : Binary) (inside : Reader Tree) (at : At) → pair (made op) inside at ≡ pair_of op inside at
+pair_is : (op : Binary) (inside : Reader Tree) (at : At) → pair (made op) inside at ≡ pair_of op inside at
 unfolding pair_of inside_and
 pair_is op inside at = simp chain_assoc
 
 -- `if`
-pub choice_is : (inside : Reader Tree) (at : At) → choice inside at ≡ choice_of inside at
+choice_is : (inside : Reader Tree) (at : At) → choice inside at ≡ choice_of inside at
 unfolding choice_of condition_of branches_of inside_and
 choice_is inside at = simp chain_assoc
 
 -- `call`
-pub call_is : (names : Names) (inside : Reader Tree) (at : At) → call names inside at ≡ (called_at names at >>= λ h. all_arguments inside h.1 >>= λ as_. call_of h.0 as_.0 as_.1)
-unfolding called_at call_of
+call_is : (names : Names) (inside : Reader Tree) (at : At) → call names inside at ≡ call_at names inside at
+unfolding call_at called_at call_of
 call_is names inside at = simp chain_assoc
+
+-- parentheses
+parenthesis_is : (inside : Reader Tree) (at : At) → parenthesis inside at ≡ parenthesis_of inside at
+unfolding parenthesis_of inside_and
+parenthesis_is inside at = simp chain_assoc
+
+-- `-`
+negation_is : (factor : Reader Tree) (at : At) → negation factor at ≡ negation_of factor at
+unfolding negation_of
+negation_is factor at = refl
 
 -- ---- a factor by its first token
 
 abbrev pub started : Names → Reader Tree → Reader Tree → Start → Reader Tree
-started names inside factor start.Parenthesis at = parenthesis inside at
-started names inside factor start.Minus at = negation factor at
+started names inside factor start.Parenthesis at = parenthesis_of inside at
+started names inside factor start.Minus at = negation_of factor at
 started names inside factor start.Digits at = numeral at
 started names inside factor start.I at = leaf (roll-Expr e.I) at
 started names inside factor start.J at = leaf (roll-Expr e.J) at
 started names inside factor start.K at = leaf (roll-Expr e.K) at
 started names inside factor start.Step at = leaf (roll-Expr e.Step) at
-started names inside factor start.Min at = pair (made binary.Least) inside at
-started names inside factor start.Max at = pair (made binary.Greatest) inside at
-started names inside factor start.If at = choice inside at
-started names inside factor start.Call at = call names inside at
-started names inside factor start.Field at = read names at
+started names inside factor start.Min at = pair_of binary.Least inside at
+started names inside factor start.Max at = pair_of binary.Greatest inside at
+started names inside factor start.If at = choice_of inside at
+started names inside factor start.Call at = call_at names inside at
+started names inside factor start.Field at = read_of names at
 
-by_test : (f : Start → Found) (test : Bool) (x y : Start) (other : Found) → other ≡ f y → (if test then f x else other) ≡ f (if test then x else y)
-by_test f true x y other same = refl
-by_test f false x y other same = same
+by_test : (f : Start → Found) (test : Bool) (x y : Start) (one other : Found) → one ≡ f x → other ≡ f y → (if test then one else other) ≡ f (if test then x else y)
+by_test f true x y one other here there = here
+by_test f false x y one other here there = there
 
-pub factor_of-started : (names : Names) (inside factor : Reader Tree) (at : At) → factor_of names inside factor at ≡ started names inside factor (start_of (keyword at)) at
+factor_of-started : (names : Names) (inside factor : Reader Tree) (at : At) → factor_of names inside factor at ≡ started names inside factor (start_of (keyword at)) at
 unfolding start_of word_start
 factor_of-started names inside factor at =
     let f : Start → Found = λ s. started names inside factor s at in
     let word = keyword at in
-    by_test f (bytes_eq word (codes "(")) start.Parenthesis _ _
-    (by_test f (bytes_eq word (codes "-")) start.Minus _ _
-    (by_test f (is_digits word) start.Digits _ _
-    (by_test f (bytes_eq word (codes "i")) start.I _ _
-    (by_test f (bytes_eq word (codes "j")) start.J _ _
-    (by_test f (bytes_eq word (codes "k")) start.K _ _
-    (by_test f (bytes_eq word (codes "step")) start.Step _ _
-    (by_test f (bytes_eq word (codes "min")) start.Min _ _
-    (by_test f (bytes_eq word (codes "max")) start.Max _ _
-    (by_test f (bytes_eq word (codes "if")) start.If _ _
-    (by_test f (bytes_eq word (codes "call")) start.Call start.Field (read names at) refl))))))))))
+    by_test f (bytes_eq word (codes "(")) start.Parenthesis _ _ _ (parenthesis_is inside at)
+    (by_test f (bytes_eq word (codes "-")) start.Minus _ _ _ (negation_is factor at)
+    (by_test f (is_digits word) start.Digits _ _ _ refl
+    (by_test f (bytes_eq word (codes "i")) start.I _ _ _ refl
+    (by_test f (bytes_eq word (codes "j")) start.J _ _ _ refl
+    (by_test f (bytes_eq word (codes "k")) start.K _ _ _ refl
+    (by_test f (bytes_eq word (codes "step")) start.Step _ _ _ refl
+    (by_test f (bytes_eq word (codes "min")) start.Min _ _ _ (pair_is binary.Least inside at)
+    (by_test f (bytes_eq word (codes "max")) start.Max _ _ _ (pair_is binary.Greatest inside at)
+    (by_test f (bytes_eq word (codes "if")) start.If _ _ _ (choice_is inside at)
+    (by_test f (bytes_eq word (codes "call")) start.Call start.Field _ _ (call_is names inside at) (read_is names at)))))))))))
 
 -- ---- terms and expressions by their room
 
@@ -115,13 +126,23 @@ unfolding factor_at
 first_of names less at = refl
 
 -- a factor with room, by its first token
-pub factor_is : (names : Names) (less : ℕ) (at : At) → factor_at names (suc less) at ≡ started names (expr_at names less) (factor_at names less) (start_of (keyword at)) at
+factor_is : (names : Names) (less : ℕ) (at : At) → factor_at names (suc less) at ≡ started names (expr_at names less) (factor_at names less) (start_of (keyword at)) at
 factor_is names less at =
     let small : less < suc less = omega arith in
     first_of names less at
     ∙ ap (λ (inside : Reader Tree). factor_of names inside (factors_below names (suc less) less) at) (λ i a. below_expr names (suc less) less small a i)
     ∙ ap (λ (factor : Reader Tree). factor_of names (expr_at names less) factor at) (below_is names (suc less) less small)
     ∙ factor_of-started names (expr_at names less) (factor_at names less) at
+
+-- the same, as a reader counts its room
+pub factor_less : (names : Names) (room : ℕ) (at : At) → 0 < room → factor_at names room at ≡ started names (expr_at names (room - 1)) (factor_at names (room - 1)) (start_of (keyword at)) at
+factor_less names zero at some = absurd (omega (arith, some))
+factor_less names (suc less) at some = rw (sub-one) (factor_is names less at)
+
+-- without room
+pub factor_none : (names : Names) (at : At) → factor_at names 0 at ≡ Err TooDeep
+unfolding factor_at
+factor_none names at = refl
 
 -- an expression of the table
 pub whole_is : (names : Names) (at : At) → whole_expr names at ≡ expr_at names 64 at

@@ -30,7 +30,7 @@ word_and (suc i) w ws = refl
 pub joined_more : (front total : List ℕ) (i : ℕ) (ws : List Word) (w : Word) → i < length ws → w ≡ get_or ws i w
     → front ++ rest i (drop i ws) ≡ total → (front ++ behind_blank i w.text) ++ rest (i + 1) (drop (i + 1) ws) ≡ total
 joined_more front total i ws w lt is so_far =
-    let here : drop i ws ≡ w ∷ drop (suc i) ws = drop-cons ws i w ∙ ap (λ x. x ∷ drop (suc i) ws) (sym is) in
+    let here : drop i ws ≡ w ∷ drop (suc i) ws = drop-cons ws i w lt ∙ ap (λ x. x ∷ drop (suc i) ws) (sym is) in
     let one : rest i (drop i ws) ≡ behind_blank i w.text ++ rest (suc i) (drop (suc i) ws) = ap (rest i) here ∙ word_and i w (drop (suc i) ws) in
     rw add-one (append_assoc front (behind_blank i w.text) (rest (suc i) (drop (suc i) ws)) ∙ ap (λ bs. front ++ bs) (sym one) ∙ so_far)
 

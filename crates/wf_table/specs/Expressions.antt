@@ -13,8 +13,8 @@ use Rattle.wf_model.specs.declared.table.TableKind.TheVariants.{Arity, UnknownHo
 use Rattle.wf_model.specs.Reading.{◌>>=◌, or_fault}
 use Rattle.wf_model.specs.Letters.{Text}
 use Rattle.wf_model.specs.Tokens.{At, Reader, keyword, is_next, past, expect, name_next, signed}
-use Rattle.wf_model.specs.TableNames.{called_hook}
-use Rattle.wf_model.specs.ExprText.{Tree, tree, node, operator, over, divided, test, deepest, arguments_tree, factor_with, factors_below}
+use Rattle.wf_model.specs.TableNames.{called_hook, level, most_dk}
+use Rattle.wf_model.specs.ExprText.{Tree, tree, node, operator, over, divided, test, all_arguments, deepest, arguments_tree, factor_with, factors_below}
 use Rattle.wf_table.specs.declared.place.Place.{Place}
 use Rattle.wf_table.specs.declared.tree.Binary.{Binary}
 use Rattle.wf_table.specs.declared.tree.Binary.TheVariants as binary
@@ -59,6 +59,14 @@ offsets most at =
     offset_and (codes ",") most di.1 >>= λ dk.
     offset_and (codes "]") 6 dk.1 >>= λ dj.
     Ok ((di.0, dk.0, dj.0), dj.1)
+
+-- a level's name and the offsets
+unfoldable pub read_of : Names → Reader Tree
+read_of names at =
+    level names at >>= λ f.
+    node f.1 >>= λ counted.
+    offsets (most_dk names f.0) counted >>= λ o.
+    Ok (tree (roll-Expr (e.Read f.0 (o.0).0 (o.0).1 (o.0).2)) 1, o.1)
 
 -- ---- operators
 
@@ -173,6 +181,14 @@ choice_of inside at =
     branches_of inside x.1 >>= λ y.
     Ok (chosen x.0 (y.0).0 (y.0).1, y.1)
 
+-- in parentheses, one deeper
+unfoldable pub parenthesis_of : Reader Tree → Reader Tree
+parenthesis_of inside at = inside_and (codes ")") inside (past at) >>= λ r. Ok (tree (r.0).expr (1 + (r.0).depth), r.1)
+
+-- `-` and a factor
+unfoldable pub negation_of : Reader Tree → Reader Tree
+negation_of factor at = node at >>= λ counted. factor (past counted) >>= λ r. Ok (tree (roll-Expr (e.Neg (r.0).expr)) (1 + (r.0).depth), r.1)
+
 -- ---- calls
 
 -- `call` NAME (
@@ -189,6 +205,12 @@ unfoldable pub call_of : HookName → List Tree → Reader Tree
 call_of h trees at =
     (if is_next (codes ")") at && not (length trees == h.arity) then Err Arity else expect (codes ")") at) >>= λ end.
     Ok (tree (roll-Expr (e.Call h.id (arguments_tree trees))) (1 + deepest trees), end)
+
+unfoldable pub call_at : Names → Reader Tree → Reader Tree
+call_at names inside at =
+    called_at names at >>= λ h.
+    all_arguments inside h.1 >>= λ as_.
+    call_of h.0 as_.0 as_.1
 
 -- each tree is less deep
 abbrev pub AllBelow : ℕ → List Read → Type 0

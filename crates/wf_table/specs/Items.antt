@@ -6,7 +6,8 @@ use Rattle.wf_model.specs.declared.plan.Item.TheVariants as item
 use Rattle.wf_model.specs.declared.table.Names.{Names}
 use Rattle.wf_model.specs.Reading.{◌>>=◌}
 use Rattle.wf_model.specs.Letters.{Text}
-use Rattle.wf_model.specs.Tokens.{Reader, expect}
+use Rattle.wf_model.specs.Tokens.{Reader, expect, past}
+use Rattle.wf_model.specs.ExprText.{Tree, whole_expr}
 use Rattle.wf_model.specs.TableNames.{level}
 use Rattle.wf_model.specs.Table.{extend, levels, margins, phase_name}
 use Rattle.wf_table.specs.declared.item.Extent.{Extent}
@@ -27,6 +28,18 @@ extent_of at =
     extend l.1 >>= λ x.
     expect (codes "=") x.1 >>= λ a.
     Ok (record { mx = (m.0).0; my = (m.0).1; from = (l.0).0; to = (l.0).1; extend = x.0 }, a)
+
+-- the phase of these parts
+abbrev pub phase_made : Text × ℕ → Extent → Tree → Item
+phase_made t x tree = item.Phase (record { name = t.0; writes = t.1; mx = x.mx; my = x.my; from = x.from; to = x.to; extend = x.extend; expr = tree.expr })
+
+-- a phase
+unfoldable pub phase_at : Names → List Item → Reader Item
+phase_at names before at =
+    target_of names before (past at) >>= λ t.
+    extent_of t.1 >>= λ x.
+    whole_expr names x.1 >>= λ tree.
+    Ok (phase_made t.0 x.0 tree.0, tree.1)
 
 -- the item is a phase of this name
 abbrev pub is_named : Text → Item → Bool

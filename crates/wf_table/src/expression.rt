@@ -5,9 +5,9 @@
 //! the operator above it.
 
 ghost use Rattle.std.specs.Prelude.{◌≡◌, ◌<◌, ◌≤◌, ◌+◌, ◌-◌, IfOk, length, map};
-ghost use Rattle.wf_model.specs.ExprText.{all_arguments, arguments, call, negation, parenthesis, whole_expr};
+ghost use Rattle.wf_model.specs.ExprText.{all_arguments, arguments, whole_expr};
 ghost use Rattle.wf_model.specs.Reading.{Gives};
-ghost use Rattle.wf_table.specs.Expressions.{AllBelow, Within, asked, branches_of, choice_of, condition_of, expr_at, factor_at, inside_and, pair_of, product_turn, seen, sum_turn, term_at, tree_of};
+ghost use Rattle.wf_table.specs.Expressions.{AllBelow, Within, asked, branches_of, call_at, choice_of, condition_of, expr_at, factor_at, inside_and, negation_of, pair_of, parenthesis_of, product_turn, seen, sum_turn, term_at, tree_of};
 ghost use Rattle.wf_table.specs.Faults.{kind_of};
 ghost use Rattle.wf_table.specs.Place.{at_of};
 
@@ -28,6 +28,7 @@ const MOST_DEPTH: u32 = 64;
 
 /// A factor.
 #[cycle(expression)]
+#[tactic(auto, using(crate::proofs::Factors::factor_less, crate::proofs::Factors::factor_none))]
 fn factor<'a>(
     alloc: Global,
     names: &Names,
@@ -59,6 +60,7 @@ fn factor<'a>(
 
 /// An expression in parentheses.
 #[cycle(expression)]
+#[tactic(auto, unfolding(crate::specs::Expressions::parenthesis_of))]
 fn parenthesis<'a>(
     alloc: Global,
     names: &Names,
@@ -66,16 +68,16 @@ fn parenthesis<'a>(
     at: Place<'a>,
 ) -> Result<(Tree, Place<'a>), LineError>
     requires { room < 64 }
-    ensures found { Gives seen kind_of result (parenthesis (expr_at names.now room) (at_of at.entry)) }
+    ensures found { Gives seen kind_of result (parenthesis_of (expr_at names.now room) (at_of at.entry)) }
     ensures within { IfOk result (Within (room + 1) (length at.entry.tokens.now)) }
 {
-    let (inner, end) = expression(alloc, names, room, at.past())?;
-    let end = end.expect(b")")?;
+    let (inner, end) = inside_and(alloc, names, room, b")", at.past())?;
     Ok((deeper(inner), end))
 }
 
 /// `-` and a factor.
 #[cycle(expression)]
+#[tactic(auto, unfolding(crate::specs::Expressions::negation_of))]
 fn negation<'a>(
     alloc: Global,
     names: &Names,
@@ -83,7 +85,7 @@ fn negation<'a>(
     at: Place<'a>,
 ) -> Result<(Tree, Place<'a>), LineError>
     requires { room < 64 }
-    ensures found { Gives seen kind_of result (negation (factor_at names.now room) (at_of at.entry)) }
+    ensures found { Gives seen kind_of result (negation_of (factor_at names.now room) (at_of at.entry)) }
     ensures within { IfOk result (Within (room + 1) (length at.entry.tokens.now)) }
 {
     let counted = at.node()?;
@@ -218,6 +220,7 @@ fn arguments<'a>(
 
 /// The arguments of a call, of which there may be none.
 #[cycle(expression)]
+#[tactic(auto, unfolding(wf_model::specs::ExprText::arguments))]
 fn all_arguments<'a>(
     alloc: Global,
     names: &Names,
@@ -229,7 +232,10 @@ fn all_arguments<'a>(
     ensures depth { IfOk result (λ x. AllBelow (room + 1) x.0.items) }
     ensures length { IfOk result (λ x. length x.1.tokens.now ≤ length at.entry.tokens.now) }
 {
-    if at.tokens.is_empty() || at.is_next(b")") {
+    if at.is_next(b")") {
+        return Ok((Vec::new(alloc), at));
+    }
+    if at.tokens.is_empty() {
         return Ok((Vec::new(alloc), at));
     }
     arguments(alloc, names, room, at)
@@ -237,6 +243,7 @@ fn all_arguments<'a>(
 
 /// A call of a stored function.
 #[cycle(expression)]
+#[tactic(auto, unfolding(crate::specs::Expressions::call_at))]
 fn call<'a>(
     alloc: Global,
     names: &Names,
@@ -244,7 +251,7 @@ fn call<'a>(
     at: Place<'a>,
 ) -> Result<(Tree, Place<'a>), LineError>
     requires { room < 64 }
-    ensures found { Gives seen kind_of result (call names.now (expr_at names.now room) (at_of at.entry)) }
+    ensures found { Gives seen kind_of result (call_at names.now (expr_at names.now room) (at_of at.entry)) }
     ensures within { IfOk result (Within (room + 1) (length at.entry.tokens.now)) }
 {
     let (hook, at) = called(names, at)?;
@@ -347,6 +354,7 @@ fn expression<'a>(
 }
 
 /// An expression of the table.
+#[tactic(auto, using(crate::proofs::Factors::whole_is))]
 pub(crate) fn whole_expression<'a>(
     alloc: Global,
     names: &Names,

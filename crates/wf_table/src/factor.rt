@@ -2,11 +2,11 @@
 
 ghost use Rattle.std.specs.Prelude.{◌≡◌, ◌<◌, ◌≤◌, ◌∷◌, IfOk, IfSome, IsTrue, codes, length, map, neg_ℤ, pos};
 ghost use Rattle.wf_model.specs.declared.expr.Expr.{Expr as Node};
-ghost use Rattle.wf_model.specs.ExprText.{divisor, leaf, numeral, operator, read, test, test_of};
+ghost use Rattle.wf_model.specs.ExprText.{divisor, leaf, numeral, operator, test, test_of};
 ghost use Rattle.wf_model.specs.Letters.{is_digits};
 ghost use Rattle.wf_model.specs.Reading.{Gives};
 ghost use Rattle.wf_model.specs.Tokens.{keyword, next};
-ghost use Rattle.wf_table.specs.Expressions.{AllBelow, Within, called_at, call_of, offset_and, offsets, product_operator, seen, sum_operator, tree_of};
+ghost use Rattle.wf_table.specs.Expressions.{AllBelow, Within, called_at, call_of, offset_and, offsets, product_operator, read_of, seen, sum_operator, tree_of};
 ghost use Rattle.wf_table.specs.Faults.{kind_of};
 ghost use Rattle.wf_table.specs.Place.{at_of};
 
@@ -72,8 +72,9 @@ fn offsets<'a>(most_dk: u64, at: Place<'a>) -> Result<((i32, i32, i32), Place<'a
 }
 
 /// A level's name, and the offsets from the point.
+#[tactic(auto, unfolding(crate::specs::Expressions::read_of))]
 pub(crate) fn read<'a>(names: &Names, at: Place<'a>) -> Result<(Tree, Place<'a>), LineError>
-    ensures found { Gives seen kind_of result (read names.now (at_of at.entry)) }
+    ensures found { Gives seen kind_of result (read_of names.now (at_of at.entry)) }
     ensures within { IfOk result (Within 1 (length at.entry.tokens.now)) }
 {
     let (field, at) = level(names, at)?;

@@ -3,20 +3,20 @@
 ghost use Rattle.std.specs.Prelude.{◌≡◌, IfOk};
 ghost use Rattle.wf_model.specs.Letters.{is_among, lower};
 ghost use Rattle.wf_model.specs.Reading.{Gives};
-ghost use Rattle.wf_model.specs.Table.{exchange, extend, item_of_text, item_reader, levels, margins, phase, phase_name, phase_names, swap, taken_phases, two_numbers};
+ghost use Rattle.wf_model.specs.Table.{exchange, extend, item_of_text, item_reader, levels, margins, phase_name, phase_names, swap, taken_phases, two_numbers};
 ghost use Rattle.wf_model.specs.declared.plan.Item.TheVariants as items;
 ghost use Rattle.wf_table.specs.Faults.{kind_of};
-ghost use Rattle.wf_table.specs.Items.{extent_of, is_named, target_of};
+ghost use Rattle.wf_table.specs.Items.{extent_of, is_named, phase_at, target_of};
 ghost use Rattle.wf_table.specs.Place.{at_of};
 
 use crate::error::LineError;
 use crate::expression::whole_expression;
-use crate::forms::lower;
 use crate::names::{entry_named, field_name, field_named, level};
 use crate::place::{Place, is_word};
 use crate::tokens::tokens_of;
 use std::alloc::{AllocError, Global};
 use wf_model::{Item, List, Name, Names, Phase, TableKind};
+use wf_text::lower;
 
 /// The greatest margin.
 const MOST_MARGIN: u64 = 1_000_000;
@@ -100,6 +100,7 @@ fn is_phase_named(item: &Item, word: &[u8]) -> bool
 }
 
 /// Whether one of the items is a phase of this name.
+#[tactic(auto, using(crate::proofs::ItemParts::is_named_among))]
 fn is_repeated(before: &[Item], word: &[u8]) -> bool
     ensures { result ≡ is_among (lower word.now) (phase_names before.now) }
 {
@@ -107,6 +108,7 @@ fn is_repeated(before: &[Item], word: &[u8]) -> bool
 }
 
 /// The name of a phase, which no phase before has.
+#[tactic(auto, using(crate::proofs::Letters::is_name_lower))]
 fn phase_name<'a>(
     alloc: Global,
     before: &[Item],
@@ -206,13 +208,14 @@ fn phase_extent<'a>(at: Place<'a>) -> Result<(Extent, Place<'a>), LineError>
 }
 
 /// `phase`, its name, what it writes, where, and by which expression.
+#[tactic(auto, unfolding(crate::specs::Items::phase_at))]
 fn phase<'a>(
     alloc: Global,
     names: &Names,
     before: &[Item],
     at: Place<'a>,
 ) -> Result<(Item, Place<'a>), LineError>
-    ensures { Gives (λ x. (x.0, at_of x.1)) kind_of result (phase names.now before.now (at_of at.entry)) }
+    ensures { Gives (λ x. (x.0, at_of x.1)) kind_of result (phase_at names.now before.now (at_of at.entry)) }
 {
     let ((name, writes), at) = target(alloc, names, before, at.past())?;
     let (extent, at) = phase_extent(at)?;
@@ -231,6 +234,7 @@ fn phase<'a>(
 }
 
 /// An item, by its first word.
+#[tactic(auto, using(crate::proofs::ItemParts::phase_is))]
 fn item<'a>(
     alloc: Global,
     names: &Names,

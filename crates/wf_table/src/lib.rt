@@ -4,10 +4,10 @@
 mod error;
 mod expression;
 mod factor;
-mod forms;
 mod item;
 mod names;
 mod place;
+pub mod probe;
 mod start;
 mod table;
 mod tokens;

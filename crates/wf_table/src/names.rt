@@ -10,7 +10,7 @@ ghost use Rattle.wf_table.specs.Faults.{kind_of};
 ghost use Rattle.wf_table.specs.Place.{at_of};
 
 use crate::error::LineError;
-use crate::place::{Place, is_word};
+use crate::place::{Place, is_name_of, is_word};
 use wf_model::{HookKind, HookName, Name, Names, TableKind};
 
 /// Whether the word is one of the language, which no field has.
@@ -46,7 +46,7 @@ pub(crate) fn field_name<'a>(at: Place<'a>) -> Result<&'a [u8], LineError>
 fn level_named(levels: &[(Name, bool)], word: &[u8]) -> Option<usize>
     ensures { result ≡ position (is_level (lower word.now)) levels.now }
 {
-    levels.iter().position(|level| is_word(word, level.0.as_slice()))
+    levels.iter().position(|level| is_name_of(level.0.as_slice(), word))
 }
 
 /// The number of the level that the next token names.
@@ -78,14 +78,14 @@ pub(crate) fn most_dk(names: &Names, level: u32) -> u64
 pub(crate) fn entry_named<'a, T>(entries: &'a [(Name, T)], word: &[u8]) -> Option<&'a (Name, T)>
     ensures { option_copied result ≡ entry_named entries.now (lower word.now) }
 {
-    entries.iter().find(|x| is_word(word, x.0.as_slice()))
+    entries.iter().find(|x| is_name_of(x.0.as_slice(), word))
 }
 
 /// The field of this symbol.
 pub(crate) fn field_named<'a>(names: &'a Names, word: &[u8]) -> Option<&'a (Name, u32, u32)>
     ensures { option_copied result ≡ field_named names.now (lower word.now) }
 {
-    names.fields.as_slice().iter().find(|x| is_word(word, x.0.as_slice()))
+    names.fields.as_slice().iter().find(|x| is_name_of(x.0.as_slice(), word))
 }
 
 fn is_called(kind: HookKind) -> bool
@@ -105,5 +105,5 @@ pub(crate) fn called_hook<'a>(names: &'a Names, word: &[u8]) -> Option<&'a HookN
         .hooks
         .as_slice()
         .iter()
-        .find(|hook| is_word(word, hook.name.as_slice()) && is_called(hook.kind))
+        .find(|hook| is_name_of(hook.name.as_slice(), word) && is_called(hook.kind))
 }

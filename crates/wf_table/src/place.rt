@@ -12,8 +12,8 @@ ghost use Rattle.wf_table.specs.Faults.{kind_of};
 ghost use Rattle.wf_table.specs.Place.{at_of};
 
 use crate::error::LineError;
-use crate::forms::digits_up_to;
 use wf_model::{Name, TableKind, Token};
+use wf_text::digits_up_to;
 
 /// So many nodes an expression may have.
 const MOST_NODES: u32 = 1024;
@@ -27,8 +27,7 @@ pub(crate) struct Place<'a> {
 
 /// Whether the text, in lower case, is this word.
 pub(crate) fn is_word(text: &[u8], word: &[u8]) -> bool
-    ensures test { result ≡ bytes_eq (lower text.now) word.now }
-    ensures reverse { result ≡ bytes_eq word.now (lower text.now) }
+    ensures { result ≡ bytes_eq (lower text.now) word.now }
 {
     if text.len() != word.len() {
         return false;
@@ -39,6 +38,14 @@ pub(crate) fn is_word(text: &[u8], word: &[u8]) -> bool
         }
     }
     true
+}
+
+/// Whether this name is the text in lower case.
+#[tactic(auto, using(crate::proofs::Words::bytes_eq_symmetric))]
+pub(crate) fn is_name_of(name: &[u8], text: &[u8]) -> bool
+    ensures { result ≡ bytes_eq name.now (lower text.now) }
+{
+    is_word(text, name)
 }
 
 impl<'a> Place<'a> {

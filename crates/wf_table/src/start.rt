@@ -6,8 +6,8 @@ ghost use Rattle.wf_model.specs.Tokens.{keyword, next};
 ghost use Rattle.wf_table.specs.Place.{at_of};
 ghost use Rattle.wf_table.specs.Start.{start_of, word_start, HasToken};
 
-use crate::forms::is_digits;
 use crate::place::Place;
+use wf_text::is_digits;
 
 /// What a factor is, as its first token tells.
 #[derive(Clone, Copy)]
@@ -56,7 +56,7 @@ fn word_start(at: Place) -> Start
 }
 
 /// What begins at a place.
-#[tactic(auto, unfolding(crate::specs::Start::start_of))]
+#[tactic(auto, using(crate::proofs::Letters::is_digits_lower), unfolding(crate::specs::Start::start_of))]
 pub(crate) fn factor_start(at: Place) -> Start
     ensures start { result ≡ start_of (keyword (at_of at.entry)) }
     ensures digits { result ≡ Start.Digits → IsTrue (is_digits (next (at_of at.entry))) }

@@ -29,6 +29,7 @@ fn in_line(line: u32, error: LineError) -> TableError
 }
 
 /// The item of a line, behind these.
+#[tactic(auto, unfolding(crate::specs::Lines::item_of_line))]
 fn item_of_line(
     alloc: Global,
     names: &Names,
@@ -72,6 +73,7 @@ fn fault_line(fault: TextFault) -> u32
 }
 
 /// The items of a text, unless a line of it is refused.
+#[tactic(auto, unfolding(crate::specs::Lines::items_of_text))]
 fn items_of_text(alloc: Global, text: &str, names: &Names) -> Result<Vec<Item>, TableError>
     ensures { Gives (λ v. v.items) fault_of result (items_of_text text.now names.now) }
 {

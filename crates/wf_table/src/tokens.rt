@@ -95,11 +95,14 @@ pub(crate) fn tokens_of(alloc: Global, text: &[u8]) -> Result<Vec<Token>, AllocE
         } else {
             let (_, from) = text.split_at(at);
             let (_, after) = text.split_at(at + 1);
-            let end = token_rest(first, after) + 1;
-            tokens.push(token(alloc, &from[..end], at)?)?;
-            at += end;
+            let size = token_rest(first, after) + 1;
+            let (word, _) = from.split_at(size);
+            let token = token(alloc, word, at)?;
+            tokens.push(token)?;
+            at += size;
         }
     }
-    tokens.push(token(alloc, b"", at)?)?;
+    let end = token(alloc, b"", at)?;
+    tokens.push(end)?;
     Ok(tokens)
 }
