@@ -7,19 +7,23 @@ use Rattle.wf_model.specs.declared.expr.Args.TheOpen as e
 use Rattle.wf_model.specs.declared.table.Names.{Names}
 use Rattle.wf_model.specs.declared.table.TableKind.{TableKind}
 use Rattle.wf_model.specs.declared.table.TableKind.TheVariants.{TooDeep}
-use Rattle.wf_model.specs.Reading.{◌>>=◌}
+use Rattle.wf_model.specs.Reading.{◌>>=◌, Gives}
 use Rattle.wf_model.specs.Letters.{is_digits}
 use Rattle.wf_model.specs.TableNames.{level, most_dk}
 use Rattle.wf_model.specs.Tokens.{At, Reader, keyword}
 use Rattle.wf_model.specs.ExprText.{Tree, tree, node, all_arguments, call, choice, expr, factor_of, factors_below, leaf, most_depth, negation, numeral, pair, parenthesis, products, read, sums, term, whole_expr}
 use Rattle.wf_model.proofs.FactorRoom.{below-room}
-use Rattle.wf_model.proofs.ReadingLemmas.{chain_assoc}
+use Rattle.wf_model.proofs.ReadingLemmas.{chain_assoc, Gives-along}
 use Rattle.wf_table.specs.declared.start.Start.{Start}
 use Rattle.wf_table.specs.declared.start.Start.TheVariants as start
 use Rattle.wf_table.specs.declared.tree.Binary.{Binary}
 use Rattle.wf_table.specs.declared.tree.Binary.TheVariants as binary
 use Rattle.wf_table.specs.Start.{start_of, word_start}
-use Rattle.wf_table.specs.Expressions.{branches_of, call_at, call_of, called_at, chain, choice_of, condition_of, expr_at, factor_at, inside_and, made, negation_of, offsets, pair_of, parenthesis_of, product_turns, read_of, sum_turns, term_at}
+use Rattle.wf_table.specs.Expressions.{branches_of, call_at, call_of, called_at, chain, choice_of, condition_of, expr_at, factor_at, inside_and, made, negation_of, offsets, pair_of, parenthesis_of, product_turns, read_of, seen, sum_turns, term_at}
+use Rattle.wf_table.specs.Faults.{kind_of}
+use Rattle.wf_table.specs.declared.error.LineError.{LineError}
+use Rattle.wf_table.specs.declared.place.Place.{Place}
+use Rattle.wf_table.specs.declared.tree.Tree.{Tree as Read}
 use Rattle.wf_table.proofs.Chains.{Found, products-chain, sums-chain}
 
 -- ---- parts
@@ -138,6 +142,14 @@ factor_is names less at =
 pub factor_less : (names : Names) (room : ℕ) (at : At) → 0 < room → factor_at names room at ≡ started names (expr_at names (room - 1)) (factor_at names (room - 1)) (start_of (keyword at)) at
 factor_less names zero at some = absurd (omega (arith, some))
 factor_less names (suc less) at some = rw (sub-one) (factor_is names less at)
+
+-- a factor of one token
+pub leaf_factor : (names : Names) (room : ℕ) (at : At) (s : Start) (x y : Expr) (result : Result (Read × Place) LineError) → 0 < room → s ≡ start_of (keyword at)
+    → started names (expr_at names (room - 1)) (factor_at names (room - 1)) s at ≡ leaf x at → x ≡ y
+    → Gives seen kind_of result (leaf y at) → Gives seen kind_of result (factor_at names room at)
+leaf_factor names room at s x y result some is same rolled gives =
+    Gives-along seen kind_of result (leaf y at) (factor_at names room at)
+    (ap (λ z. leaf z at) (sym rolled) ∙ sym same ∙ ap (λ (t : Start). started names (expr_at names (room - 1)) (factor_at names (room - 1)) t at) is ∙ sym (factor_less names room at some)) gives
 
 -- without room
 pub factor_none : (names : Names) (at : At) → factor_at names 0 at ≡ Err TooDeep

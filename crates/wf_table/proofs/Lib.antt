@@ -8,3 +8,4 @@ pub mod ArgumentLists
 pub mod Factors
 pub mod ItemParts
 pub mod ItemLines
+pub mod TextOf

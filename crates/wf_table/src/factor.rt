@@ -1,8 +1,7 @@
 //! Factors of one token, reads and the tokens between expressions.
 
-ghost use Rattle.std.specs.Prelude.{◌≡◌, ◌<◌, ◌≤◌, ◌∷◌, IfOk, IfSome, IsTrue, codes, length, map, neg_ℤ, pos};
-ghost use Rattle.wf_model.specs.declared.expr.Expr.{Expr as Node};
-ghost use Rattle.wf_model.specs.ExprText.{divisor, leaf, numeral, operator, test, test_of};
+ghost use Rattle.std.specs.Prelude.{◌≡◌, ◌+◌, ◌<◌, ◌≤◌, IfOk, IfSome, IsTrue, length, map};
+ghost use Rattle.wf_model.specs.ExprText.{deepest, divisor, leaf, numeral, operator, test, test_of};
 ghost use Rattle.wf_model.specs.Letters.{is_digits};
 ghost use Rattle.wf_model.specs.Reading.{Gives};
 ghost use Rattle.wf_model.specs.Tokens.{keyword, next};
@@ -193,6 +192,7 @@ pub(crate) fn call_of<'a>(
 ) -> Result<(Tree, Place<'a>), LineError>
     requires { AllBelow 64 trees.items }
     ensures found { Gives seen kind_of result (call_of hook.now (map tree_of trees.items) (at_of at.entry)) }
+    ensures depth { IfOk result (λ x. x.0.depth ≡ 1 + deepest (map tree_of trees.items)) }
     ensures length { IfOk result (λ x. length x.1.tokens.now ≤ length at.entry.tokens.now) }
 {
     if at.is_next(b")") && trees.len() != hook.arity as usize {

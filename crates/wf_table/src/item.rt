@@ -1,6 +1,7 @@
 //! The items of the table, one a line.
 
 ghost use Rattle.std.specs.Prelude.{◌≡◌, IfOk};
+ghost use Rattle.std.specs.List.{list_any};
 ghost use Rattle.wf_model.specs.Letters.{is_among, lower};
 ghost use Rattle.wf_model.specs.Reading.{Gives};
 ghost use Rattle.wf_model.specs.Table.{exchange, extend, item_of_text, item_reader, levels, margins, phase_name, phase_names, swap, taken_phases, two_numbers};
@@ -100,11 +101,17 @@ fn is_phase_named(item: &Item, word: &[u8]) -> bool
 }
 
 /// Whether one of the items is a phase of this name.
-#[tactic(auto, using(crate::proofs::ItemParts::is_named_among))]
+fn has_phase_named(items: &[Item], word: &[u8]) -> bool
+    ensures { result ≡ list_any (is_named (lower word.now)) items.now }
+{
+    items.iter().any(|item| is_phase_named(item, word))
+}
+
+/// Whether a phase before has this name.
 fn is_repeated(before: &[Item], word: &[u8]) -> bool
     ensures { result ≡ is_among (lower word.now) (phase_names before.now) }
 {
-    before.iter().any(|item| is_phase_named(item, word))
+    has_phase_named(before, word)
 }
 
 /// The name of a phase, which no phase before has.
