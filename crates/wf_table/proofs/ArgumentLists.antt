@@ -1,5 +1,5 @@
 -- The arguments of a call one after the other, as a loop reads them.
-use Rattle.std.proofs.Common.{◌≡◌, ℕ, zero, suc, ◌+◌, ◌-◌, ◌<◌, ◌≤◌, Bool, true, false, List, [], ◌∷◌, ◌++◌, length, Option, Some, None, Result, Ok, Err, refl, sym, ap, ◌∙◌, arith, if◌then◌else◌, append_assoc}
+use Rattle.std.proofs.Common.{◌≡◌, ℕ, zero, suc, ◌<◌, ◌≤◌, Bool, true, false, List, [], ◌∷◌, ◌++◌, length, Option, Result, Ok, Err, refl, sym, ap, ◌∙◌, arith, if◌then◌else◌, append_assoc}
 use Rattle.std.specs.Prelude.{codes}
 use Rattle.wf_model.specs.declared.table.Token.{Token}
 use Rattle.wf_model.specs.declared.table.TableKind.{TableKind}
@@ -56,7 +56,7 @@ module _ (inside : Reader Tree) (front : List Tree) (at : At) (total : Found) wh
       → length next.tokens < length at.tokens → 0 < length next.tokens → IsRest inside (front ++ a ∷ []) (past next) total
   unfolding after
   goes_on a next r read comma less some = go r.count r.room r.same
-      where
+    where
       go : (n : ℕ) → length at.tokens ≤ n → behind front (arguments inside n at) ≡ total → IsRest inside (front ++ a ∷ []) (past next) total
       go zero room same = absurd (omega (arith, room, less))
       go (suc n) room same = record {
@@ -70,7 +70,7 @@ module _ (inside : Reader Tree) (front : List Tree) (at : At) (total : Found) wh
   pub stops : (a : Tree) (next : At) → IsRest inside front at total → inside at ≡ Ok (a, next) → is_next (codes ",") next ≡ false → total ≡ Ok (front ++ a ∷ [], next)
   unfolding after
   stops a next r read no_comma = go r.count r.some r.same
-      where
+    where
       go : (n : ℕ) → 0 < n → behind front (arguments inside n at) ≡ total → total ≡ Ok (front ++ a ∷ [], next)
       go zero some same = absurd (omega (arith, some))
       go (suc n) some same = sym same ∙ ap (behind front) (one_more inside n at next a false read no_comma)
@@ -79,7 +79,7 @@ module _ (inside : Reader Tree) (front : List Tree) (at : At) (total : Found) wh
   pub fails : (fault : Option TableKind) → IsRest inside front at total → Fails fault (inside at) → Fails fault total
   unfolding arguments
   fails fault r bad = go r.count r.some r.same
-      where
+    where
       go : (n : ℕ) → 0 < n → behind front (arguments inside n at) ≡ total → Fails fault total
       go zero some same = absurd (omega (arith, some))
       go (suc n) some same =

@@ -1,17 +1,15 @@
 -- Factors, terms and expressions by their room, and the parts that they are read in.
-use Rattle.std.proofs.Common.{◌≡◌, ℕ, zero, suc, ◌+◌, ◌-◌, ◌<◌, ◌≤◌, Bool, true, false, List, length, Option, Some, None, Result, Ok, Err, refl, sym, ap, ap₂, ◌∙◌, arith, if◌then◌else◌, lit<, sub-one}
+use Rattle.std.proofs.Common.{◌≡◌, ℕ, zero, suc, ◌-◌, ◌<◌, Bool, true, false, length, Result, Err, refl, sym, ap, ◌∙◌, arith, if◌then◌else◌, lit<, sub-one}
 use Rattle.std.specs.Prelude.{codes}
 use Rattle.std.specs.Str.{bytes_eq}
 use Rattle.wf_model.specs.declared.expr.Expr.{Expr, roll-Expr}
 use Rattle.wf_model.specs.declared.expr.Args.TheOpen as e
 use Rattle.wf_model.specs.declared.table.Names.{Names}
-use Rattle.wf_model.specs.declared.table.TableKind.{TableKind}
 use Rattle.wf_model.specs.declared.table.TableKind.TheVariants.{TooDeep}
 use Rattle.wf_model.specs.Reading.{◌>>=◌, Gives}
 use Rattle.wf_model.specs.Letters.{is_digits}
-use Rattle.wf_model.specs.TableNames.{level, most_dk}
 use Rattle.wf_model.specs.Tokens.{At, Reader, keyword}
-use Rattle.wf_model.specs.ExprText.{Tree, tree, node, all_arguments, call, choice, expr, factor_of, factors_below, leaf, most_depth, negation, numeral, pair, parenthesis, products, read, sums, term, whole_expr}
+use Rattle.wf_model.specs.ExprText.{Tree, call, choice, expr, factor_of, factors_below, leaf, negation, numeral, pair, parenthesis, products, read, sums, term, whole_expr}
 use Rattle.wf_model.proofs.FactorRoom.{below-room}
 use Rattle.wf_model.proofs.ReadingLemmas.{chain_assoc, Gives-along}
 use Rattle.wf_table.specs.declared.start.Start.{Start}
@@ -19,7 +17,7 @@ use Rattle.wf_table.specs.declared.start.Start.TheVariants as start
 use Rattle.wf_table.specs.declared.tree.Binary.{Binary}
 use Rattle.wf_table.specs.declared.tree.Binary.TheVariants as binary
 use Rattle.wf_table.specs.Start.{start_of, word_start}
-use Rattle.wf_table.specs.Expressions.{branches_of, call_at, call_of, called_at, chain, choice_of, condition_of, expr_at, factor_at, inside_and, made, negation_of, offsets, pair_of, parenthesis_of, product_turns, read_of, seen, sum_turns, term_at}
+use Rattle.wf_table.specs.Expressions.{branches_of, call_at, call_of, called_at, chain, choice_of, condition_of, expr_at, factor_at, inside_and, made, negation_of, offsets, pair_of, parenthesis_of, product_turns, read_of, seen, term_at}
 use Rattle.wf_table.specs.Faults.{kind_of}
 use Rattle.wf_table.specs.declared.error.LineError.{LineError}
 use Rattle.wf_table.specs.declared.place.Place.{Place}
@@ -103,9 +101,9 @@ term_is factors names room here less = λ i at. step at i
   where
     step : (at : At) → term factors room at ≡ (factor_at names room at >>= λ first. chain (product_turns (factor_at names (room - 1)) room) (length at.tokens) first.0 first.1)
     step at =
-      ap (λ (f : Reader Tree). f at >>= λ first. products (factors (room - 1)) room (length at.tokens) first.0 first.1) here
-      ∙ ap (λ (f : Reader Tree). factor_at names room at >>= λ first. products f room (length at.tokens) first.0 first.1) less
-      ∙ ap (λ (g : Tree × At → Found). factor_at names room at >>= g) (λ i first. products-chain (factor_at names (room - 1)) room (length at.tokens) first.0 first.1 i)
+        ap (λ (f : Reader Tree). f at >>= λ first. products (factors (room - 1)) room (length at.tokens) first.0 first.1) here
+        ∙ ap (λ (f : Reader Tree). factor_at names room at >>= λ first. products f room (length at.tokens) first.0 first.1) less
+        ∙ ap (λ (g : Tree × At → Found). factor_at names room at >>= g) (λ i first. products-chain (factor_at names (room - 1)) room (length at.tokens) first.0 first.1 i)
 
 expr_is : (factors : ℕ → Reader Tree) (names : Names) (room : ℕ) → factors room ≡ factor_at names room → factors (room - 1) ≡ factor_at names (room - 1)
     → factors (room - 1 - 1) ≡ factor_at names (room - 1 - 1) → (at : At) → expr factors room at ≡ expr_at names room at

@@ -1,14 +1,12 @@
 -- A table's text is UTF-8, or nothing of it is read.
-use Rattle.std.proofs.Common.{◌≡◌, ℕ, Bool, true, false, List, [], Result, Ok, Err, refl, sym, ap, ◌∙◌, if◌then◌else◌}
+use Rattle.std.proofs.Common.{◌≡◌, ℕ, Bool, true, false, List, Result, Err, refl, sym, ap, ◌∙◌, if◌then◌else◌}
 use Rattle.std.specs.Str.{IsUtf8, is_utf8}
 use Rattle.std.proofs.lemmas.Str.{IsUtf8-from_is_utf8, is_utf8-from_IsUtf8}
 use Rattle.wf_model.specs.declared.plan.Item.{Item}
 use Rattle.wf_model.specs.declared.table.Names.{Names}
 use Rattle.wf_model.specs.declared.table.TableFault.{TableFault}
 use Rattle.wf_model.specs.declared.table.TableKind.TheVariants.{NotText}
-use Rattle.wf_model.specs.Reading.{◌>>=◌}
-use Rattle.wf_model.specs.Lines.{lines_read}
-use Rattle.wf_model.specs.Table.{items_from, table_of, unless_bad}
+use Rattle.wf_model.specs.Table.{table_of}
 use Rattle.wf_table.specs.Lines.{items_of_text}
 
 -- the items of a text, or the refusal of all of it

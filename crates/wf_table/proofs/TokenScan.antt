@@ -1,5 +1,5 @@
 -- The tokens of a text, one after the other, as a loop reads them.
-use Rattle.std.proofs.Common.{◌≡◌, ℕ, zero, suc, ◌+◌, ◌-◌, ◌<◌, ◌≤◌, List, [], ◌∷◌, ◌++◌, length, get_or, take, drop, refl, sym, ap, ap₂, ◌∙◌, add-one, add-zero, drop-cons, drop-drop, length-drop, append_assoc, arith}
+use Rattle.std.proofs.Common.{◌≡◌, ℕ, zero, suc, ◌+◌, ◌<◌, ◌≤◌, List, [], ◌∷◌, ◌++◌, length, get_or, take, drop, refl, sym, ap, ap₂, ◌∙◌, add-one, add-zero, drop-cons, drop-drop, length-drop, append_assoc, arith}
 use Rattle.std.proofs.lemmas.Bool.{ne_eqb}
 use Rattle.std.proofs.Math.ListN.{drop_of_length-le}
 use Rattle.wf_model.specs.declared.table.Token.{Token}
@@ -40,7 +40,7 @@ token_read front total at n l t lt no_blank rest bound is so_far =
     let gone : at + 1 + n ≡ at + (n + 1) = omega arith in
     let room : n ≤ length bs = omega (arith, length-drop (at + 1) l) in
     let two : tokens_from (at + 1 + 1) n bs ≡ tokens_from (at + (n + 1) + 1) 0 (drop (at + (n + 1)) l) =
-      passed (at + 1 + 1) n bs room ∙ ap₂ (λ c ds. tokens_from c 0 ds) place (drop-drop n (at + 1) l ∙ ap (λ k. drop k l) gone) in
+    passed (at + 1 + 1) n bs room ∙ ap₂ (λ c ds. tokens_from c 0 ds) place (drop-drop n (at + 1) l ∙ ap (λ k. drop k l) gone) in
     append_assoc front (t ∷ []) _ ∙ ap (λ ts. front ++ ts) (ap₂ ◌∷◌ (is ∙ ap (λ x. token x (at + 1)) text) (sym two) ∙ sym one) ∙ so_far
 
 -- the text is at its end

@@ -1,10 +1,9 @@
 -- The grammar of expressions in the parts that its reader takes.
-use Rattle.std.specs.Prelude.{ℕ, zero, suc, ◌+◌, ◌-◌, ◌<◌, ◌≤◌, ◌==◌, max, not, ◌&&◌, List, [], ◌∷◌, length, map, All, Option, Some, None, Result, Ok, Err, ℤ, if◌then◌else◌, codes}
+use Rattle.std.specs.Prelude.{ℕ, zero, suc, ◌+◌, ◌-◌, ◌<◌, ◌≤◌, ◌==◌, max, not, ◌&&◌, List, length, All, Option, Some, None, Result, Ok, Err, ℤ, if◌then◌else◌, codes}
 use Rattle.std.specs.Option.{option_map}
 use Rattle.std.specs.Str.{bytes_eq}
 use Rattle.wf_model.specs.declared.expr.Test.{Test}
 use Rattle.wf_model.specs.declared.expr.Expr.{Expr, roll-Expr}
-use Rattle.wf_model.specs.declared.expr.Args.{Args, roll-Args}
 use Rattle.wf_model.specs.declared.expr.Args.TheOpen as e
 use Rattle.wf_model.specs.declared.table.Names.{Names}
 use Rattle.wf_model.specs.declared.table.HookName.{HookName}

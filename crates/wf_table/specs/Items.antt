@@ -1,5 +1,5 @@
 -- The grammar of items in the parts that its reader takes.
-use Rattle.std.specs.Prelude.{ℕ, Bool, false, List, Ok, Result, codes}
+use Rattle.std.specs.Prelude.{ℕ, Bool, false, List, Ok, codes}
 use Rattle.std.specs.Str.{bytes_eq}
 use Rattle.wf_model.specs.declared.plan.Item.{Item}
 use Rattle.wf_model.specs.declared.plan.Item.TheVariants as item

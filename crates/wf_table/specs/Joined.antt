@@ -1,5 +1,5 @@
 -- Words joined by blanks (32).
-use Rattle.std.specs.Prelude.{ℕ, zero, suc, List, ◌∷◌}
+use Rattle.std.specs.Prelude.{ℕ, zero, suc, ◌∷◌}
 use Rattle.wf_model.specs.Letters.{Text}
 
 -- the word of this place, with the blank before it

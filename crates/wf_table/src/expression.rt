@@ -4,7 +4,7 @@
 //! each of them one less; so does an operator to its right operand, and its left operand has to fit with
 //! the operator above it.
 
-ghost use Rattle.std.specs.Prelude.{◌≡◌, ◌<◌, ◌≤◌, ◌+◌, ◌-◌, IfOk, length, map};
+ghost use Rattle.std.specs.Prelude.{◌<◌, ◌≤◌, ◌+◌, ◌-◌, IfOk, length, map};
 ghost use Rattle.wf_model.specs.ExprText.{all_arguments, arguments, whole_expr};
 ghost use Rattle.wf_model.specs.Reading.{Gives};
 ghost use Rattle.wf_table.specs.Expressions.{AllBelow, Within, asked, branches_of, call_at, choice_of, condition_of, expr_at, factor_at, inside_and, negation_of, pair_of, parenthesis_of, product_turn, seen, sum_turn, term_at, tree_of};

@@ -85,11 +85,7 @@ pub(crate) fn read<'a>(names: &Names, at: Place<'a>) -> Result<(Tree, Place<'a>)
 }
 
 /// Behind an operator, which is a node and makes its left operand one deeper.
-pub(crate) fn operator<'a>(
-    room: u32,
-    left: &Tree,
-    at: Place<'a>,
-) -> Result<Place<'a>, LineError>
+pub(crate) fn operator<'a>(room: u32, left: &Tree, at: Place<'a>) -> Result<Place<'a>, LineError>
     ensures found { Gives at_of kind_of result (operator room (tree_of left.now) (at_of at.entry)) }
     ensures room { IfOk result (λ p. left.now.depth < room) }
     ensures length { IfOk result (λ p. length p.tokens.now ≤ length at.entry.tokens.now) }

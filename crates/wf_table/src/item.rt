@@ -4,7 +4,7 @@ ghost use Rattle.std.specs.Prelude.{◌≡◌, IfOk};
 ghost use Rattle.std.specs.List.{list_any};
 ghost use Rattle.wf_model.specs.Letters.{is_among, lower};
 ghost use Rattle.wf_model.specs.Reading.{Gives};
-ghost use Rattle.wf_model.specs.Table.{exchange, extend, item_of_text, item_reader, levels, margins, phase_name, phase_names, swap, taken_phases, two_numbers};
+ghost use Rattle.wf_model.specs.Table.{exchange, extend, item_of_text, item_reader, levels, margins, phase_name, phase_names, swap, taken_phases};
 ghost use Rattle.wf_model.specs.declared.plan.Item.TheVariants as items;
 ghost use Rattle.wf_table.specs.Faults.{kind_of};
 ghost use Rattle.wf_table.specs.Items.{extent_of, is_named, phase_at, target_of};
@@ -241,7 +241,6 @@ fn phase<'a>(
 }
 
 /// An item, by its first word.
-#[tactic(auto, using(crate::proofs::ItemParts::phase_is))]
 fn item<'a>(
     alloc: Global,
     names: &Names,

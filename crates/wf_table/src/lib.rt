@@ -7,7 +7,6 @@ mod factor;
 mod item;
 mod names;
 mod place;
-pub mod probe;
 mod start;
 mod table;
 mod tokens;
@@ -15,7 +14,6 @@ mod tree;
 
 pub use error::TableError;
 pub use table::read_table;
-
 
 #[cfg(test)]
 mod tests;

@@ -46,7 +46,9 @@ pub(crate) fn field_name<'a>(at: Place<'a>) -> Result<&'a [u8], LineError>
 fn level_named(levels: &[(Name, bool)], word: &[u8]) -> Option<usize>
     ensures { result ≡ position (is_level (lower word.now)) levels.now }
 {
-    levels.iter().position(|level| is_name_of(level.0.as_slice(), word))
+    levels
+        .iter()
+        .position(|level| is_name_of(level.0.as_slice(), word))
 }
 
 /// The number of the level that the next token names.
@@ -85,7 +87,11 @@ pub(crate) fn entry_named<'a, T>(entries: &'a [(Name, T)], word: &[u8]) -> Optio
 pub(crate) fn field_named<'a>(names: &'a Names, word: &[u8]) -> Option<&'a (Name, u32, u32)>
     ensures { option_copied result ≡ field_named names.now (lower word.now) }
 {
-    names.fields.as_slice().iter().find(|x| is_name_of(x.0.as_slice(), word))
+    names
+        .fields
+        .as_slice()
+        .iter()
+        .find(|x| is_name_of(x.0.as_slice(), word))
 }
 
 fn is_called(kind: HookKind) -> bool
@@ -101,9 +107,6 @@ fn is_called(kind: HookKind) -> bool
 pub(crate) fn called_hook<'a>(names: &'a Names, word: &[u8]) -> Option<&'a HookName>
     ensures { option_copied result ≡ called_hook names.now (lower word.now) }
 {
-    names
-        .hooks
-        .as_slice()
-        .iter()
-        .find(|hook| is_name_of(hook.name.as_slice(), word) && is_called(hook.kind))
+    names.hooks.as_slice().iter().find(|hook| is_name_of(hook.name.as_slice(), word)
+        && is_called(hook.kind))
 }

@@ -198,14 +198,26 @@ fn answer(rt: &HostRuntime, text: &[u8]) -> Result<String, Fail> {
 #[test]
 fn items_are_read(rt: HostRuntime) -> Result<(), Fail> {
     for (text, items) in [
-        ("HALO H24\nperiod p2 # all\n\nSwap C\n", "halo 1|period 1|swap 2 3|"),
+        (
+            "HALO H24\nperiod p2 # all\n\nSwap C\n",
+            "halo 1|period 1|swap 2 3|",
+        ),
         (
             "phase P writes c_2 margin 2 1 levels 1 128 extend 6 = a[-1,0,0] + a[1,0,0]",
             "3 2,1 1,128 6 add(0[-1,0,0] 0[1,0,0])|",
         ),
-        ("phase p writes \\\n t = t[- 6,-127,6]", "4 0,0 0,0 0 4[-6,-127,6]|"),
-        ("phase p writes a = 1 - 2 - 3", "0 0,0 0,0 0 sub(sub(1 2) 3)|"),
-        ("phase p writes a = 1 + 2*3 mod 4 div 5", "0 0,0 0,0 0 add(1 div(mod(mul(2 3) 4) 5))|"),
+        (
+            "phase p writes \\\n t = t[- 6,-127,6]",
+            "4 0,0 0,0 0 4[-6,-127,6]|",
+        ),
+        (
+            "phase p writes a = 1 - 2 - 3",
+            "0 0,0 0,0 0 sub(sub(1 2) 3)|",
+        ),
+        (
+            "phase p writes a = 1 + 2*3 mod 4 div 5",
+            "0 0,0 0,0 0 add(1 div(mod(mul(2 3) 4) 5))|",
+        ),
         (
             "phase p writes a = IF i<2 THEN 1 ELSE 4 + J",
             "0 0,0 0,0 0 if(i Less 2 then 1 else add(4 j))|",
@@ -214,9 +226,16 @@ fn items_are_read(rt: HostRuntime) -> Result<(), Fail> {
             "phase p writes a = min(-k, max((step), 9223372036854775807))",
             "0 0,0 0,0 0 min(neg(k) max(step 9223372036854775807))|",
         ),
-        ("phase p writes a = call relax(i, 100, 4)", "0 0,0 0,0 0 call1(i;100;4;)|"),
+        (
+            "phase p writes a = call relax(i, 100, 4)",
+            "0 0,0 0,0 0 call1(i;100;4;)|",
+        ),
     ] {
-        assert_eq!(rt; answer(&rt, text.as_bytes())?.as_str(), items, "in {text:?}");
+        assert_eq!(rt;
+            answer(&rt, text.as_bytes())?.as_str(),
+            items,
+            "in {text:?}"
+        );
     }
     Ok(())
 }
@@ -226,23 +245,36 @@ fn refusals_have_their_places(rt: HostRuntime) -> Result<(), Fail> {
     for (text, refusal) in [
         ("halo h24\nswap \"c", "2 BadText"),
         ("halo h4\nswap \"c", "1 UnknownName"),
-        ("halo h24\nphase q writes a = a[0,0,0] mod 0", "2 ZeroDivisor"),
+        (
+            "halo h24\nphase q writes a = a[0,0,0] mod 0",
+            "2 ZeroDivisor",
+        ),
         ("phase q writes a = call nosuch(1)", "1 UnknownHook"),
         ("phase q writes a = call relax(1, 2)", "1 Arity"),
         ("period p1", "1 UnknownName"),
         ("phase q writes d = 1", "1 UnknownField"),
-        ("phase q writes a = 1\nphase Q writes b = 1", "2 RepeatedPhase"),
+        (
+            "phase q writes a = 1\nphase Q writes b = 1",
+            "2 RepeatedPhase",
+        ),
         ("phase force writes a = 1", "1 Syntax { column: 7 }"),
         ("swap a", "1 NotTwoLevels"),
         ("phase q writes a = a[7,0,0]", "1 Syntax { column: 22 }"),
         ("phase q writes a = a[0,1,0]", "1 Syntax { column: 24 }"),
         ("phase q writes a = 1 +", "1 Syntax { column: 23 }"),
-        ("phase q writes a = 9223372036854775808", "1 Syntax { column: 20 }"),
+        (
+            "phase q writes a = 9223372036854775808",
+            "1 Syntax { column: 20 }",
+        ),
         ("phase q writes if = 1", "1 Syntax { column: 16 }"),
         ("phase  q   writes a \\\n  = )", "1 Syntax { column: 20 }"),
         ("halo h24 h24", "1 Syntax { column: 10 }"),
     ] {
-        assert_eq!(rt; answer(&rt, text.as_bytes())?.as_str(), refusal, "in {text:?}");
+        assert_eq!(rt;
+            answer(&rt, text.as_bytes())?.as_str(),
+            refusal,
+            "in {text:?}"
+        );
     }
     assert_eq!(rt; answer(&rt, &[255])?.as_str(), "0 NotText");
     Ok(())
@@ -270,7 +302,10 @@ fn depth_counts_parentheses_and_operators(rt: HostRuntime) -> Result<(), Fail> {
         answer(&rt, nested(&rt, 63)?.as_bytes())?.as_str(),
         "0 0,0 0,0 0 1|"
     );
-    assert_eq!(rt; answer(&rt, nested(&rt, 64)?.as_bytes())?.as_str(), "1 TooDeep");
+    assert_eq!(rt;
+        answer(&rt, nested(&rt, 64)?.as_bytes())?.as_str(),
+        "1 TooDeep"
+    );
     let mut text = String::from_str(rt.alloc(), "phase p writes a = 1")?;
     push_repeated(&mut text, " + 1", 63)?;
     assert!(rt; read_table(rt.alloc(), text.as_bytes(), &names(&rt)?).is_ok());
@@ -292,7 +327,10 @@ fn balanced(rt: &HostRuntime, sign: &str) -> Result<String, Fail> {
 fn nodes_and_items_are_counted(rt: HostRuntime) -> Result<(), Fail> {
     let text = balanced(&rt, "-")?;
     assert!(rt; read_table(rt.alloc(), text.as_bytes(), &names(&rt)?).is_ok());
-    assert_eq!(rt; answer(&rt, balanced(&rt, "- -")?.as_bytes())?.as_str(), "1 TooLong");
+    assert_eq!(rt;
+        answer(&rt, balanced(&rt, "- -")?.as_bytes())?.as_str(),
+        "1 TooLong"
+    );
     let mut text = String::new(rt.alloc());
     push_repeated(&mut text, "halo h24\n", 256)?;
     assert!(rt; read_table(rt.alloc(), text.as_bytes(), &names(&rt)?).is_ok());

@@ -71,7 +71,7 @@ pub(crate) fn deeper(inner: Tree) -> Tree
     requires { inner.depth < 64 }
     ensures { tree_of result ≡ tree inner.expr (1 + inner.depth) }
 {
-    let depth = inner.depth + 1;
+    let depth = 1 + inner.depth;
     let expr = inner.expr;
     Tree { expr, depth }
 }

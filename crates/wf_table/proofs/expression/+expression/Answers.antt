@@ -1,4 +1,4 @@
-use Rattle.std.proofs.Common.{◌≡◌, ◌+◌, ◌-◌, ◌∙◌, length, map, sym, ap, arith, Ok, Some}
+use Rattle.std.proofs.Common.{◌+◌, ◌-◌, ◌∙◌, length, map, sym, ap, arith, Ok}
 use Rattle.std.proofs.lemmas.Result.{err_from_is_err_and}
 use Rattle.std.specs.Option.{option_map}
 use Rattle.wf_model.specs.Reading.{◌>>=◌}
@@ -11,13 +11,11 @@ use Rattle.wf_table.proofs.Chains.{Found, begins, goes_on, stops, fails}
 use Rattle.wf_table.proofs.ArgumentLists as list
 use Rattle.wf_table.proofs.Factors.{leaf_factor}
 use Rattle.wf_table.proofs.Trees.{below_push, call_within, seen_push}
-use Rattle.wf_table.specs.Expressions.{AllBelow}
 use Rattle.wf_table.specs.declared.start.Start.TheVariants as start
-use Rattle.wf_model.specs.declared.expr.Expr.{Expr, roll-Expr}
+use Rattle.wf_model.specs.declared.expr.Expr.{roll-Expr}
 use Rattle.wf_model.specs.declared.expr.Args.TheOpen as e
 use Rattle.wf_model.specs.declared.expr.Expr.TheVariants as expr
 use Rattle.std.proofs.Common.{refl, subst, List, ◌∷◌, [], ◌++◌, ◌<◌}
-use Rattle.std.specs.Prelude.{codes}
 use Rattle.wf_model.specs.ExprText.{Tree}
 use Rattle.wf_model.specs.Tokens.{At, past}
 use Rattle.wf_table.proofs.expression.+expression.Goals as goal
@@ -35,7 +33,7 @@ term-loop-sign-init t c =
     let room = c.args.room in
     record {
       chain = begins (product_turns (factor_at names (room - 1)) room) _ _ _ (length c.args.at.tokens.now) (omega (arith, c.in_ok-left.ensures.within.1))
-        (sym (ap (λ (f : Found). f >>= λ first. chain (product_turns (factor_at names (room - 1)) room) (length c.args.at.tokens.now) first.0 first.1) c.in_ok-left.ensures.found));
+          (sym (ap (λ (f : Found). f >>= λ first. chain (product_turns (factor_at names (room - 1)) room) (length c.args.at.tokens.now) first.0 first.1) c.in_ok-left.ensures.found));
       depth = c.in_ok-left.ensures.within.0;
       shorter = c.in_ok-left.ensures.within.1;
     }
@@ -47,7 +45,7 @@ term-returns-in_err-tree-clause-found t c =
     let at = at_of c.loop-sign.rest in
     let p = err_from_is_err_and c.from_residual-in_err-tree.result c.from_residual-in_err-tree.ensures.1 in
     rw (p.1, p.2) (fails (product_turns right c.args.room) left at _ (kind_of c.in_err-tree.field-0.0) (product_turn right c.args.room c.in-Some.sign left at) c.loop-sign.invariant.chain
-        (ap (option_map (λ op. product_turn right c.args.room op left at)) (sym c.in-Some.ensures.operator)) c.in-Some.ensures.token c.in_err-tree.ensures.found)
+    (ap (option_map (λ op. product_turn right c.args.room op left at)) (sym c.in-Some.ensures.operator)) c.in-Some.ensures.token c.in_err-tree.ensures.found)
 
 pub term-loop-sign-preserved : goal.term-loop-sign-preserved
 term-loop-sign-preserved t c =
@@ -56,7 +54,7 @@ term-loop-sign-preserved t c =
     let at = at_of c.loop-sign.rest in
     record {
       chain = goes_on (product_turns right c.args.room) left at _ (product_turn right c.args.room c.in-Some.sign left at) (tree_of c.in_ok-tree.tree) (at_of c.in_ok-tree.end) c.loop-sign.invariant.chain
-        (ap (option_map (λ op. product_turn right c.args.room op left at)) (sym c.in-Some.ensures.operator)) c.in_ok-tree.ensures.found c.in_ok-tree.ensures.within.1;
+          (ap (option_map (λ op. product_turn right c.args.room op left at)) (sym c.in-Some.ensures.operator)) c.in_ok-tree.ensures.found c.in_ok-tree.ensures.within.1;
       depth = c.in_ok-tree.ensures.within.0;
       shorter = omega (arith, c.in_ok-tree.ensures.within.1, c.loop-sign.invariant.shorter);
     }
@@ -81,7 +79,7 @@ expression-loop-sign-init t c =
     let room = c.args.room in
     record {
       chain = begins (sum_turns (term_at names (room - 1)) room) _ _ _ (length c.args.at.tokens.now) (omega (arith, c.in_ok-left.ensures.within.1))
-        (sym (ap (λ (f : Found). f >>= λ first. chain (sum_turns (term_at names (room - 1)) room) (length c.args.at.tokens.now) first.0 first.1) c.in_ok-left.ensures.found));
+          (sym (ap (λ (f : Found). f >>= λ first. chain (sum_turns (term_at names (room - 1)) room) (length c.args.at.tokens.now) first.0 first.1) c.in_ok-left.ensures.found));
       depth = c.in_ok-left.ensures.within.0;
       shorter = c.in_ok-left.ensures.within.1;
     }
@@ -93,7 +91,7 @@ expression-returns-in_err-tree-clause-found t c =
     let at = at_of c.loop-sign.rest in
     let p = err_from_is_err_and c.from_residual-in_err-tree.result c.from_residual-in_err-tree.ensures.1 in
     rw (p.1, p.2) (fails (sum_turns right c.args.room) left at _ (kind_of c.in_err-tree.field-0.0) (sum_turn right c.args.room c.in-Some.sign left at) c.loop-sign.invariant.chain
-        (ap (option_map (λ op. sum_turn right c.args.room op left at)) (sym c.in-Some.ensures.operator)) c.in-Some.ensures.token c.in_err-tree.ensures.found)
+    (ap (option_map (λ op. sum_turn right c.args.room op left at)) (sym c.in-Some.ensures.operator)) c.in-Some.ensures.token c.in_err-tree.ensures.found)
 
 pub expression-loop-sign-preserved : goal.expression-loop-sign-preserved
 expression-loop-sign-preserved t c =
@@ -102,7 +100,7 @@ expression-loop-sign-preserved t c =
     let at = at_of c.loop-sign.rest in
     record {
       chain = goes_on (sum_turns right c.args.room) left at _ (sum_turn right c.args.room c.in-Some.sign left at) (tree_of c.in_ok-tree.tree) (at_of c.in_ok-tree.end) c.loop-sign.invariant.chain
-        (ap (option_map (λ op. sum_turn right c.args.room op left at)) (sym c.in-Some.ensures.operator)) c.in_ok-tree.ensures.found c.in_ok-tree.ensures.within.1;
+          (ap (option_map (λ op. sum_turn right c.args.room op left at)) (sym c.in-Some.ensures.operator)) c.in_ok-tree.ensures.found c.in_ok-tree.ensures.within.1;
       depth = c.in_ok-tree.ensures.within.0;
       shorter = omega (arith, c.in_ok-tree.ensures.within.1, c.loop-sign.invariant.shorter);
     }
@@ -122,7 +120,7 @@ arguments-returns-in_err-tree-clause-found t c =
 pub arguments-returns-then-not-is_next-clause-found : goal.arguments-returns-then-not-is_next-clause-found
 arguments-returns-then-not-is_next-clause-found t c =
     list.stops (expr_at c.args.names.now c.args.room) (map tree_of c.loop-trees.trees.items) (at_of c.loop-trees.at) _ (tree_of c.in_ok-tree.tree) (at_of c.in_ok-tree.end) c.loop-trees.invariant.rest c.in_ok-tree.ensures.found
-      (sym c.is_next.ensures.test ∙ c.if-not-is_next.true)
+    (sym c.is_next.ensures.test ∙ c.if-not-is_next.true)
     ∙ ap (λ ts. Ok (ts, at_of c.in_ok-tree.end)) (sym (seen_push c.loop-trees.trees.items c.push.new.self.items c.in_ok-tree.tree c.in_ok-push.ensures.items))
 
 pub arguments-returns-then-not-is_next-clause-depth : goal.arguments-returns-then-not-is_next-clause-depth
@@ -136,9 +134,9 @@ arguments-loop-trees-preserved t c =
     let comma = sym c.is_next.ensures.test ∙ c.if-not-is_next.false in
     let some : 0 < length c.in_ok-tree.end.tokens.now = c.is_next.ensures.some c.if-not-is_next.false (omega arith) in
     let whole : list.IsRest inside (map tree_of c.loop-trees.trees.items ++ tree_of c.in_ok-tree.tree ∷ []) (past (at_of c.in_ok-tree.end)) total =
-      list.goes_on inside (map tree_of c.loop-trees.trees.items) (at_of c.loop-trees.at) total (tree_of c.in_ok-tree.tree) (at_of c.in_ok-tree.end) c.loop-trees.invariant.rest c.in_ok-tree.ensures.found comma c.in_ok-tree.ensures.within.1 some in
+    list.goes_on inside (map tree_of c.loop-trees.trees.items) (at_of c.loop-trees.at) total (tree_of c.in_ok-tree.tree) (at_of c.in_ok-tree.end) c.loop-trees.invariant.rest c.in_ok-tree.ensures.found comma c.in_ok-tree.ensures.within.1 some in
     let trees : list.IsRest inside (map tree_of c.push.new.self.items) (past (at_of c.in_ok-tree.end)) total =
-      subst (λ (ts : List Tree). list.IsRest inside ts (past (at_of c.in_ok-tree.end)) total) (sym (seen_push c.loop-trees.trees.items c.push.new.self.items c.in_ok-tree.tree c.in_ok-push.ensures.items)) whole in
+    subst (λ (ts : List Tree). list.IsRest inside ts (past (at_of c.in_ok-tree.end)) total) (sym (seen_push c.loop-trees.trees.items c.push.new.self.items c.in_ok-tree.tree c.in_ok-push.ensures.items)) whole in
     record {
       rest = subst (λ (at : At). list.IsRest inside (map tree_of c.push.new.self.items) at total) (sym c.past-at.ensures.place) trees;
       depth = below_push (c.args.room + 1) c.loop-trees.trees.items c.push.new.self.items c.in_ok-tree.tree c.in_ok-push.ensures.items c.loop-trees.invariant.depth (omega (arith, c.in_ok-tree.ensures.within.0));
