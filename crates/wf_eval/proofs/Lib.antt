@@ -1,0 +1,6 @@
+pub mod LargeDivisors
+pub mod Fitting
+pub mod Layers
+pub mod Operands
+pub mod Walk
+pub mod Built

@@ -1,0 +1,11 @@
+pub mod Words
+pub mod Letters
+pub mod TokenScan
+pub mod JoinedWords
+pub mod Trees
+pub mod Chains
+pub mod ArgumentLists
+pub mod Factors
+pub mod ItemParts
+pub mod ItemLines
+pub mod TextOf
