@@ -1,6 +1,5 @@
 -- The words of a line, joined one after the other.
-use Rattle.std.proofs.Common.{◌≡◌, ℕ, zero, suc, ◌+◌, ◌<◌, ◌≤◌, List, [], ◌∷◌, ◌++◌, length, get_or, drop, map, refl, sym, ap, ◌∙◌, add-one, drop-cons, append_assoc}
-use Rattle.std.proofs.Math.ListN.{drop_of_length-le}
+use Rattle.std.proofs.Common.{◌≡◌, ℕ, zero, suc, ◌+◌, ◌<◌, List, [], ◌∷◌, ◌++◌, length, get_or, drop, map, refl, sym, ap, ◌∙◌, add-one, drop-cons, append_assoc}
 use Rattle.std.proofs.lemmas.List.{append-nil}
 use Rattle.std.specs.List.{join_with_byte}
 use Rattle.wf_model.specs.declared.text.Word.{Word}
@@ -33,12 +32,3 @@ joined_more front total i ws w lt is so_far =
     let here : drop i ws ≡ w ∷ drop (suc i) ws = drop-cons ws i w lt ∙ ap (λ x. x ∷ drop (suc i) ws) (sym is) in
     let one : rest i (drop i ws) ≡ behind_blank i w.text ++ rest (suc i) (drop (suc i) ws) = ap (rest i) here ∙ word_and i w (drop (suc i) ws) in
     rw add-one (append_assoc front (behind_blank i w.text) (rest (suc i) (drop (suc i) ws)) ∙ ap (λ bs. front ++ bs) (sym one) ∙ so_far)
-
--- no word is left
-nothing : (i : ℕ) → rest i [] ≡ []
-nothing zero = refl
-nothing (suc i) = refl
-
-pub joined_all : (front total : List ℕ) (i : ℕ) (ws : List Word) → length ws ≤ i → front ++ rest i (drop i ws) ≡ total → front ≡ total
-joined_all front total i ws le so_far =
-    sym (append-nil front) ∙ ap (λ bs. front ++ bs) (sym (ap (rest i) (drop_of_length-le ws le) ∙ nothing i)) ∙ so_far

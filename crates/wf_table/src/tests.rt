@@ -230,6 +230,16 @@ fn items_are_read(rt: HostRuntime) -> Result<(), Fail> {
             "phase p writes a = call relax(i, 100, 4)",
             "0 0,0 0,0 0 call1(i;100;4;)|",
         ),
+        (
+            "halo h24\n\
+             phase q writes a margin 1 1 extend 1 = (4*a[0,0,0] + a[-1,0,0] \\\n\
+             + a[1,0,0] + a[0,0,-1] + a[0,0,1]) div 8\n\
+             phase p writes b margin 2 1 = a[-1,0,0] + a[1,0,0]\n",
+            "halo 1|\
+             0 1,1 0,0 1 \
+             div(add(add(add(add(mul(4 0[0,0,0]) 0[-1,0,0]) 0[1,0,0]) 0[0,0,-1]) 0[0,0,1]) 8)|\
+             1 2,1 0,0 0 add(0[-1,0,0] 0[1,0,0])|",
+        ),
     ] {
         assert_eq!(rt;
             answer(&rt, text.as_bytes())?.as_str(),

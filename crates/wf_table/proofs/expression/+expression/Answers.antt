@@ -1,8 +1,8 @@
-use Rattle.std.proofs.Common.{◌+◌, ◌-◌, ◌∙◌, length, map, sym, ap, arith, Ok}
+use Rattle.std.proofs.Common.{◌+◌, ◌-◌, ◌∙◌, length, map, sym, ap, arith, Ok, refl, subst, List, ◌∷◌, [], ◌++◌, ◌<◌}
 use Rattle.std.proofs.lemmas.Result.{err_from_is_err_and}
 use Rattle.std.specs.Option.{option_map}
 use Rattle.wf_model.specs.Reading.{◌>>=◌}
-use Rattle.wf_model.specs.ExprText.{arguments}
+use Rattle.wf_model.specs.ExprText.{arguments, Tree}
 use Rattle.wf_model.proofs.ReadingLemmas.{Fails-chain}
 use Rattle.wf_table.specs.Faults.{kind_of}
 use Rattle.wf_table.specs.Place.{at_of}
@@ -15,8 +15,6 @@ use Rattle.wf_table.specs.declared.start.Start.TheVariants as start
 use Rattle.wf_model.specs.declared.expr.Expr.{roll-Expr}
 use Rattle.wf_model.specs.declared.expr.Args.TheOpen as e
 use Rattle.wf_model.specs.declared.expr.Expr.TheVariants as expr
-use Rattle.std.proofs.Common.{refl, subst, List, ◌∷◌, [], ◌++◌, ◌<◌}
-use Rattle.wf_model.specs.ExprText.{Tree}
 use Rattle.wf_model.specs.Tokens.{At, past}
 use Rattle.wf_table.proofs.expression.+expression.Goals as goal
 

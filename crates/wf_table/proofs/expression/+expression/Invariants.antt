@@ -1,5 +1,4 @@
-use Rattle.std.proofs.Common.{◌<◌, ◌≤◌, ◌+◌, ◌*◌, length}
-use Rattle.std.proofs.Common.{◌-◌, map}
+use Rattle.std.proofs.Common.{◌<◌, ◌≤◌, ◌+◌, ◌*◌, length, ◌-◌, map}
 use Rattle.wf_model.specs.ExprText.{arguments}
 use Rattle.wf_table.specs.Place.{at_of}
 use Rattle.wf_table.specs.Expressions.{AllBelow, expr_at, factor_at, product_turns, sum_turns, term_at, tree_of}
