@@ -1,0 +1,5 @@
+pub mod Levels
+pub mod Following
+pub mod Reading
+pub mod Filled
+pub mod Stepped
