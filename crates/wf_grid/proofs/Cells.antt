@@ -116,11 +116,11 @@ level_within zs ys xs k j i low h = by (nat_le k zs) refl
         not_le f = grind arith
 
 -- two lists with the same elements
-pub same_list : {X : Type 0} (as bs : List X) (d : X) → length as ≡ length bs → ((q : ℕ) → q < length as → get_or as q d ≡ get_or bs q d) → as ≡ bs
+pub same_list : {X : Type 0} (us vs : List X) (d : X) → length us ≡ length vs → ((q : ℕ) → q < length us → get_or us q d ≡ get_or vs q d) → us ≡ vs
 same_list [] [] d e h = refl
-same_list [] (b ∷ bs) d e h = absurd (omega (arith, e))
-same_list (a ∷ as) [] d e h = absurd (omega (arith, e))
-same_list (a ∷ as) (b ∷ bs) d e h =
+same_list [] (b ∷ vs) d e h = absurd (omega (arith, e))
+same_list (a ∷ us) [] d e h = absurd (omega (arith, e))
+same_list (a ∷ us) (b ∷ vs) d e h =
     let head : a ≡ b = h 0 (omega arith) in
-    let tail : as ≡ bs = same_list as bs d (omega (arith, e)) (λ q p. h (suc q) (omega (arith, p))) in
+    let tail : us ≡ vs = same_list us vs d (omega (arith, e)) (λ q p. h (suc q) (omega (arith, p))) in
     (λ n. head n ∷ tail n)

@@ -1,3 +1,6 @@
 pub mod Wrapping
 pub mod Meeting
 pub mod Cells
+pub mod Filling
+pub mod Finding
+pub mod Lists
