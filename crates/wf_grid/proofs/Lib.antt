@@ -4,3 +4,4 @@ pub mod Cells
 pub mod Filling
 pub mod Finding
 pub mod Lists
+pub mod PhaseResult

@@ -38,7 +38,7 @@ module _ (plan : Plan) (d : ℕ) (lists : List (List ℤ)) where
       same_list lists (map (λ f. level_list plan d f g) (levels_of plan)) no_list (l ∙ sym (length-map-range_with_len (λ f. level_list plan d f g) 0 (length plan.fields)))
       (λ q p. let level : IsLevel plan q = subst (λ (n : ℕ). q < n) l p in
       list_is (nz plan q) (ny plan d q) (nx plan d q) (g d q) (get_or lists q no_list) (each q level) (λ k j i. h q k j i level)
-      ∙ sym (get_or-map-range_with_len (λ f. level_list plan d f g) 0 (length plan.fields) q q no_list level (λ n. q)))
+      ∙ sym (get_or-map-range_with_len (λ f. level_list plan d f g) 0 (length plan.fields) q q no_list level (omega arith)))
 
   -- the number of a point of the lists
   pub number_in : (f k j i : ℕ) → get_or (get_or lists f no_list) (place_in (ny plan d f) (nx plan d f) k j i) (pos 0) ≡ grids_of plan d lists d f k j i
