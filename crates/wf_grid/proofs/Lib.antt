@@ -5,3 +5,4 @@ pub mod Filling
 pub mod Finding
 pub mod Lists
 pub mod PhaseResult
+pub mod Items

@@ -1,6 +1,6 @@
 -- A level that was computed whole is the level after the phase; and a point without a number is the first that overflows.
 use Rattle.std.proofs.Common.{◌≡◌, ◌≢◌, ℕ, ◌+◌, ◌*◌, ◌<◌, ◌≤◌, Bool, true, false, cond, List, length, get_or, set, refl, sym, ap, subst, ◌∙◌, arith, Some, None, length-set, get_or-set_other, get_or-set_same}
-use Rattle.std.specs.Prelude.{ℤ, pos, Option, is_none, unwrap_or, find, nat_eq, ◌==◌, ◌&&◌, if◌then◌else◌}
+use Rattle.std.specs.Prelude.{ℤ, pos, Option, option_map, IfSome, is_none, unwrap_or, find, nat_eq, ◌==◌, ◌&&◌, if◌then◌else◌}
 use Rattle.wf_model.specs.declared.plan.Plan.{Plan}
 use Rattle.wf_model.specs.declared.plan.Phase.{Phase}
 use Rattle.wf_model.specs.Plans.{nx, ny, nz}
@@ -11,7 +11,8 @@ use Rattle.wf_model.specs.Sound.{IsLevel}
 use Rattle.wf_model.specs.Outcome.{no_list}
 use Rattle.wf_laws.proofs.Bools.{same_number}
 use Rattle.wf_grid.specs.Levels.{place_in, IsPlaceIn, level_spots, grids_of, lists_of, AreLists, number_after}
-use Rattle.wf_grid.specs.Filled.{spot_at, phase_number, IsFilled, IsStopped, StopsAt}
+use Rattle.wf_grid.specs.declared.extents.Here.{Here}
+use Rattle.wf_grid.specs.Filled.{spot_of, spot_at, phase_number, IsFilled, IsStopped, StopsAt}
 use Rattle.wf_grid.proofs.Cells.{PointOf, point_of}
 use Rattle.wf_grid.proofs.Filling.{length-spots, spot_is}
 use Rattle.wf_grid.proofs.Finding.{find-none, find-at, find-one}
@@ -144,3 +145,21 @@ module _ (plan : Plan) (m : Answers) (d : ℕ) (lists : List (List ℤ)) (step :
           ap (λ (x : List ℤ). get_or x (place_in (ny plan d f) (nx plan d f) k j i) (pos 0)) (there f (differ f ph.writes e))
           ∙ number_in plan d lists f k j i
           ∙ sym (unchanged change grids d f k j i (not_set f k j i (differ f ph.writes e)))
+
+module _ (plan : Plan) (d : ℕ) (lists : List (List ℤ)) (step : ℕ) (ph : Phase) (r : Option Here) (numbers : List ℤ)
+    (level : IsLevel plan ph.writes) (size : length numbers ≡ nz plan ph.writes * (ny plan d ph.writes * nx plan d ph.writes))
+    (done : r ≡ None → (m : Answers) → IsFilled plan m d lists step ph (length numbers) numbers) where
+  -- what the loop names is the first point that overflows
+  pub names : IfSome r (λ h. (m : Answers) → StopsAt plan m d lists step ph (spot_of ph.writes h)) → (m : Answers) → option_map (spot_of ph.writes) r ≡ overflow_in plan (change plan m d lists step ph)
+  names stopped m = by r refl stopped
+    where
+      by : (o : Option Here) → r ≡ o → IfSome o (λ h. (m : Answers) → StopsAt plan m d lists step ph (spot_of ph.writes h)) → option_map (spot_of ph.writes) r ≡ overflow_in plan (change plan m d lists step ph)
+      by None e s = ap (option_map (spot_of ph.writes)) e ∙ sym (none_over plan m d lists step ph numbers level size (done e m))
+      by (Some h) e s = ap (option_map (spot_of ph.writes)) e ∙ sym (first_over plan m d lists step ph (spot_of ph.writes h) level (s m))
+
+  -- and without one the lists are those after the phase
+  pub sets : AreLists plan d lists → r ≡ None → (after : List (List ℤ)) → after ≡ set lists ph.writes numbers → (m : Answers) →
+      after ≡ (if is_none r then lists_of plan d (changed (change plan m d lists step ph) (grids plan m d lists step ph)) else lists)
+  sets are e after is m =
+      is ∙ after_phase plan m d lists step ph numbers are level size (done e m)
+      ∙ (λ n. if is_none (sym e n) then lists_of plan d (changed (change plan m d lists step ph) (grids plan m d lists step ph)) else lists)

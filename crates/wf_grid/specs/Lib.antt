@@ -3,3 +3,4 @@ pub mod Following
 pub mod Reading
 pub mod Filled
 pub mod Stepped
+pub mod Takeable

@@ -64,6 +64,7 @@ fn fill(
     requires runnable { IsRunnable plan.now number phase.now }
     requires few { nz plan.now phase.now.writes < 2 ^ 31 }
     requires size { length scratch.old ≡ nz plan.now phase.now.writes * (ny plan.now number phase.now.writes * nx plan.now number phase.now.writes) }
+    ensures length { length scratch.new ≡ nz plan.now phase.now.writes * (ny plan.now number phase.now.writes * nx plan.now number phase.now.writes) }
     ensures done { result ≡ None → (m : Answers) → IsFilled plan.now m number levels.now step phase.now (length scratch.new) scratch.new }
     ensures stopped { IfSome result (λ here. (m : Answers) → StopsAt plan.now m number levels.now step phase.now (spot_of phase.now.writes here)) }
 {
