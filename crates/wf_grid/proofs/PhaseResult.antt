@@ -50,7 +50,7 @@ unchanged c g d f k j i e = (λ n. if (d == c.domain) && e n then unwrap_or (c.v
     keeps false x y = refl
 
 -- numbers that are not equal fail the test
-not_equal : (a b : ℕ) → (a ≡ b → ⊥) → (a == b) ≡ false
+pub not_equal : (a b : ℕ) → (a ≡ b → ⊥) → (a == b) ≡ false
 not_equal a b h = by (a == b) refl
   where
     by : (t : Bool) → (a == b) ≡ t → (a == b) ≡ false
