@@ -6,3 +6,4 @@ pub mod Finding
 pub mod Lists
 pub mod PhaseResult
 pub mod Items
+pub mod Steps

@@ -4,3 +4,4 @@ pub mod Reading
 pub mod Filled
 pub mod Stepped
 pub mod Takeable
+pub mod Held

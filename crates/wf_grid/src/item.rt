@@ -53,6 +53,7 @@ fn take_item(
     requires room { HasRoom plan.now number scratch.old }
     ensures point { (m : Answers) → result ≡ (left_by_item plan.now m number step place levels.old).point }
     ensures lists { (m : Answers) → levels.new ≡ (left_by_item plan.now m number step place levels.old).lists }
+    ensures scratch { length scratch.new ≡ length scratch.old }
 {
     match item(plan, place) {
         Item::Halo(_) | Item::Period(_) => None,
@@ -82,6 +83,7 @@ pub fn take_step(
     ensures point { (m : Answers) → result ≡ (left_by_step plan.now m number step levels.old).point }
     ensures lists { (m : Answers) → levels.new ≡ (left_by_step plan.now m number step levels.old).lists }
     ensures are { AreLists plan.now number levels.new }
+    ensures scratch { length scratch.new ≡ length scratch.old }
 {
     for place in 0..plan.items.as_slice().len() as u32 {
         if let Some(point) = take_item(plan, number, levels, step, place, scratch) {

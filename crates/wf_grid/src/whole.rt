@@ -1,25 +1,15 @@
 //! A run on whole domains.
 
+ghost use Rattle.std.specs.Prelude.{◌≡◌, ◌+◌, ◌^◌, ◌<◌, ◌≤◌, All, length};
+ghost use Rattle.wf_model.specs.Value.{Answers};
+ghost use Rattle.wf_grid.specs.Levels.{AreLists};
+ghost use Rattle.wf_grid.specs.Stepped.{left_by_steps};
+ghost use Rattle.wf_grid.specs.Takeable.{IsTable, HasRoom};
+
 use crate::item::take_step;
 use std::alloc::{AllocError, Global};
+use std::marker::Model;
 use wf_model::{Initial, List, Plan, Point};
-
-/// A plan, how its domains begin, and the numbers that they hold.
-#[derive(Drop)]
-pub struct Whole {
-    plan: Plan,
-    initial: Initial,
-    scratch: Vec<i32>,
-}
-
-/// The length of the longest list.
-fn longest(levels: &[List<i32>]) -> usize {
-    let mut most = 0;
-    for level in levels {
-        most = most.max(level.as_slice().len());
-    }
-    most
-}
 
 /// Steps domain 1 through the run, up to the first overflow.
 fn settle_levels(
@@ -27,40 +17,20 @@ fn settle_levels(
     before: u64,
     levels: &mut [List<i32>],
     scratch: &mut [i32],
-) -> Option<Point> {
+) -> Option<Point>
+    requires lists { AreLists plan.now 1 levels.old }
+    requires table { IsTable plan.now 1 }
+    requires items { length plan.now.items < 2 ^ 32 }
+    requires room { HasRoom plan.now 1 scratch.old }
+    requires steps { before + plan.now.steps < 2 ^ 64 }
+    ensures point { (m : Answers) → result ≡ (left_by_steps plan.now m 1 before levels.old).point }
+    ensures lists { (m : Answers) → levels.new ≡ (left_by_steps plan.now m 1 before levels.old).lists }
+    ensures are { AreLists plan.now 1 levels.new }
+{
     for n in 0..plan.steps {
         if let Some(point) = take_step(plan, 1, levels, before + n + 1, scratch) {
             return Some(point);
         }
     }
     None
-}
-
-impl Whole {
-    /// Takes all memory that the run needs: beside the numbers of all levels one scratch, as long as the longest level.
-    pub fn new(alloc: Global, plan: Plan, initial: Initial) -> Result<Whole, AllocError> {
-        let count = longest(initial.grids.as_slice()[0].as_slice());
-        let scratch = vec![in alloc; 0; count]?;
-        Ok(Whole {
-            plan,
-            initial,
-            scratch,
-        })
-    }
-
-    /// Steps the run to its end, or to its first overflow, which it gives: the numbers are then those before that item.
-    pub fn settle(&mut self) -> Option<Point> {
-        let before = self.initial.begins.as_slice()[0].steps;
-        settle_levels(
-            &self.plan,
-            before,
-            self.initial.grids.as_mut_slice()[0].as_mut_slice(),
-            self.scratch.as_mut_slice(),
-        )
-    }
-
-    /// The numbers of a level, in order k, j, i with i fastest.
-    pub fn grid(&self, domain: u32, field: u32) -> &[i32] {
-        self.initial.grids.as_slice()[domain as usize - 1].as_slice()[field as usize].as_slice()
-    }
 }
