@@ -7,3 +7,4 @@ pub mod Lists
 pub mod PhaseResult
 pub mod Items
 pub mod Steps
+pub mod Agreeing
