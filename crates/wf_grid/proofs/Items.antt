@@ -39,7 +39,7 @@ no_spot : Spot
 no_spot = record { field = 0; k = 0; j = 0; i = 0 }
 
 -- nothing overflows nowhere
-nothing_over : (plan : Plan) → overflow_in plan nothing ≡ None
+pub nothing_over : (plan : Plan) → overflow_in plan nothing ≡ None
 unfolding nothing
 nothing_over plan = find-none (overflows_at nothing) no_spot (spots plan 0) (λ q l. refl)
 

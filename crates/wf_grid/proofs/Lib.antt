@@ -8,3 +8,4 @@ pub mod PhaseResult
 pub mod Items
 pub mod Steps
 pub mod Agreeing
+pub mod Running
