@@ -9,3 +9,4 @@ pub mod Items
 pub mod Steps
 pub mod Agreeing
 pub mod Running
+pub mod WholeScript

@@ -92,7 +92,7 @@ module _ (r : RunData) where
       whole (Err x) = let z : x.place - 0 ≡ x.place = omega arith in (λ n. record { point = Some x.point; grids = fold (grids_after r) (begin_grids r) (take (z n) (script r)) })
 
   -- entries one behind another
-  run-append : (es fs : List Entry) (g : Grids) → run_from (es ++ fs) g ≡ run_on (run_from es g).point (run_from es g).grids (run_from fs (run_from es g).grids)
+  pub run-append : (es fs : List Entry) (g : Grids) → run_from (es ++ fs) g ≡ run_on (run_from es g).point (run_from es g).grids (run_from fs (run_from es g).grids)
   unfolding run_from
   run-append [] fs g = refl
   run-append (e ∷ es) fs g =
@@ -102,10 +102,10 @@ module _ (r : RunData) where
       ]
 
   -- entries that do nothing before others, and after them
-  run-before : (es fs : List Entry) (g : Grids) → ((h : Grids) → run_from es h ≡ record { point = None; grids = h }) → run_from (es ++ fs) g ≡ run_from fs g
+  pub run-before : (es fs : List Entry) (g : Grids) → ((h : Grids) → run_from es h ≡ record { point = None; grids = h }) → run_from (es ++ fs) g ≡ run_from fs g
   run-before es fs g none = run-append es fs g ∙ (λ n. run_on (none g n).point (none g n).grids (run_from fs (none g n).grids))
 
-  run-after : (es fs : List Entry) (g : Grids) → ((h : Grids) → run_from fs h ≡ record { point = None; grids = h }) → run_from (es ++ fs) g ≡ run_from es g
+  pub run-after : (es fs : List Entry) (g : Grids) → ((h : Grids) → run_from fs h ≡ record { point = None; grids = h }) → run_from (es ++ fs) g ≡ run_from es g
   run-after es fs g none =
       run-append es fs g ∙ (λ n. run_on (run_from es g).point (run_from es g).grids (none (run_from es g).grids n)) ∙ same (run_from es g)
     where
@@ -117,7 +117,7 @@ module _ (r : RunData) where
           by (Some p) g = refl
 
   -- frames do nothing
-  frames-idle : (dom stp st : ℕ → ℕ) (t : ℕ) (ss : List ℕ) (g : Grids) → run_from (map (λ s. entry (dom s) (stp s) t (Emit (st s))) ss) g ≡ record { point = None; grids = g }
+  pub frames-idle : (dom stp st : ℕ → ℕ) (t : ℕ) (ss : List ℕ) (g : Grids) → run_from (map (λ s. entry (dom s) (stp s) t (Emit (st s))) ss) g ≡ record { point = None; grids = g }
   unfolding run_from overflow_of grids_after change_of
   frames-idle dom stp st t [] g = refl
   frames-idle dom stp st t (s ∷ ss) g =
@@ -174,7 +174,7 @@ module _ (r : RunData) where
         by (Some p) = refl
 
     -- the items of a step
-    items-seen : (step t a n : ℕ) (g : Grids) → a + n ≤ length r.plan.items →
+    pub items-seen : (step t a n : ℕ) (g : Grids) → a + n ≤ length r.plan.items →
         left_by (left_by_item r.plan r.answers 1 step) (range_with_len a n) (lists_of r.plan 1 g) ≡ seen (run_from (map (λ n. entry 1 step t (Table n)) (range_with_len a n)) g)
     unfolding left_by run_from
     items-seen step t a zero g h = refl

@@ -1,9 +1,13 @@
 -- What a run on whole domains holds, and what is left of it.
-use Rattle.std.specs.Prelude.{◌≡◌, ℕ, ◌+◌, ◌^◌, ◌<◌, ◌≤◌, List, length, map, ℤ, Option, Some, None, Result, Ok, Err, slice_index_or}
+use Rattle.std.specs.Prelude.{◌≡◌, ℕ, [], ◌+◌, ◌-◌, ◌^◌, ◌<◌, ◌≤◌, List, length, map, ℤ, Option, Some, None, Result, Ok, Err, slice_index_or}
 use Rattle.wf_model.specs.declared.plan.Plan.{Plan}
 use Rattle.wf_model.specs.declared.initial.Initial.{Initial}
+use Rattle.wf_model.specs.declared.plan.Item.{Item}
+use Rattle.wf_model.specs.declared.plan.Item.TheVariants as item
+use Rattle.wf_model.specs.ExprFacts.{parts_of}
+use Rattle.wf_model.specs.Sound.{IsDomain, IsSoundPlan, IsSoundFirst}
 use Rattle.wf_model.specs.declared.point.Point.{Point}
-use Rattle.wf_model.specs.Plans.{domains_of, begin_of}
+use Rattle.wf_model.specs.Plans.{domain_of, domains_of, begin_of}
 use Rattle.wf_model.specs.Value.{Answers}
 use Rattle.wf_model.specs.Grids.{Grids}
 use Rattle.wf_model.specs.Outcome.{RunData, Overflow, no_lists, grids_at}
@@ -43,6 +47,9 @@ first_lists initial = slice_index_or initial.grids 0 no_lists
 
 -- what a run of one domain needs to be settled
 pub record IsReady (plan : Plan) (initial : Initial) (scratch : List ℤ) : Type 0 where
+  pub sound : IsSoundPlan plan
+  pub first : IsSoundFirst (domain_of plan 1)
+  pub one_domain : length plan.domains ≡ 1
   pub domains : length initial.grids ≡ 1
   pub begins : 1 ≤ length initial.begins
   pub lists : AreLists plan 1 (first_lists initial)
@@ -50,3 +57,15 @@ pub record IsReady (plan : Plan) (initial : Initial) (scratch : List ℤ) : Type
   pub items : length plan.items < 2 ^ 32
   pub room : HasRoom plan 1 scratch
   pub steps : (begin_of initial.begins 1).steps + plan.steps < 2 ^ 64
+
+-- as many lists as the plan has domains and levels
+pub record HasLists (plan : Plan) (initial : Initial) : Type 0 where
+  pub domains : length initial.grids ≡ length plan.domains
+  pub levels : (d : ℕ) → IsDomain plan d → length (slice_index_or initial.grids (d - 1) no_lists) ≡ length plan.fields
+
+-- no phase calls a stored function
+abbrev pub CallsNothing : Item → Type 0
+CallsNothing (item.Halo parts) = Unit {0}
+CallsNothing (item.Period parts) = Unit {0}
+CallsNothing (item.Swap one two) = Unit {0}
+CallsNothing (item.Phase ph) = (parts_of ph.expr).calls ≡ []

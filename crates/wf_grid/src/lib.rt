@@ -7,6 +7,9 @@ mod extents;
 mod item;
 mod phase;
 mod surroundings;
+
+pub use whole::Whole;
+
 #[cfg(test)]
 mod tests;
 mod whole;

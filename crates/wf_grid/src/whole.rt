@@ -1,10 +1,14 @@
 //! A run on whole domains.
 
-ghost use Rattle.std.specs.Prelude.{◌≡◌, ◌+◌, ◌^◌, ◌<◌, ◌≤◌, All, length};
+ghost use Rattle.std.specs.Prelude.{◌≡◌, ◌+◌, ◌-◌, ◌^◌, ◌<◌, ◌≤◌, All, IfOk, length, slice_index_or};
+ghost use Rattle.wf_model.specs.Plans.{begin_of};
 ghost use Rattle.wf_model.specs.Value.{Answers};
+ghost use Rattle.wf_model.specs.Outcome.{outcome_of, no_list, no_lists};
+ghost use Rattle.wf_model.specs.Sound.{IsDomain, IsLevel, IsSoundPlan, IsRangedPlan, IsFittingInitial};
 ghost use Rattle.wf_grid.specs.Levels.{AreLists};
 ghost use Rattle.wf_grid.specs.Stepped.{left_by_steps};
 ghost use Rattle.wf_grid.specs.Takeable.{IsTable, HasRoom};
+ghost use Rattle.wf_grid.specs.Held.{run_of, held_with, all_lists, point_at_end, grids_at_end, first_lists, HasLists, CallsNothing};
 
 use crate::item::take_step;
 use std::alloc::{AllocError, Global};
@@ -33,4 +37,85 @@ fn settle_levels(
         }
     }
     None
+}
+
+/// The length of the longest list.
+fn longest(levels: &[List<i32>]) -> usize
+    ensures { All (λ list. length list ≤ result) levels.now }
+{
+    let mut most = 0;
+    for level in levels {
+        most = most.max(level.as_slice().len());
+    }
+    most
+}
+
+/// A run on whole domains: its plan, how its domains begin, and the numbers that they hold.
+#[derive(Drop)]
+pub struct Whole {
+    plan: Plan,
+    initial: Initial,
+    scratch: Vec<i32>,
+}
+
+impl Model for Whole {
+    ghost use Rattle.wf_grid.specs.Held.{Held, IsReady};
+    ghost use Rattle.wf_model.specs.contracts.expr.Expr as e;
+    ghost use Rattle.std.specs.Coded.{codes};
+
+    ghost Value = { Held };
+
+    ghost coded = { Prim.hlevel (codes, e.the_row.coded) };
+
+    ghost view = { λ it. record { plan = it.plan; initial = it.initial } };
+
+    ghost invariant = { λ it. IsReady it.plan it.initial it.scratch.items };
+}
+
+impl Whole {
+    /// Takes all memory that the run needs: beside the numbers one scratch, as long as the longest level.
+    ///
+    /// Only one domain runs for now, and no phase may call a stored function.
+    pub fn new(alloc: Global, plan: Plan, initial: Initial) -> Result<Whole, AllocError>
+        requires sound { IsSoundPlan plan }
+        requires ranged { IsRangedPlan plan }
+        requires fitting { IsFittingInitial plan initial }
+        requires lists { HasLists plan initial }
+        requires one_domain { length plan.domains ≡ 1 }
+        requires calls { All CallsNothing plan.items }
+        ensures { IfOk result (λ w. w ≡ record { plan = plan; initial = initial }) }
+    {
+        let count = longest(initial.grids.as_slice()[0].as_slice());
+        let scratch = vec![in alloc; 0; count]?;
+        Ok(Whole {
+            plan,
+            initial,
+            scratch,
+        })
+    }
+
+    /// Steps the run to its end, or to its first overflow, which it gives: the numbers are then those before that item.
+    ///
+    /// It begins with the numbers that are held, and with the first step after the domain's begin. It takes no memory.
+    pub fn settle(&mut self) -> Option<Point>
+        ensures point { (m : Answers) → result ≡ point_at_end (outcome_of (run_of self.old m)) }
+        ensures numbers { (m : Answers) → self.new ≡ held_with self.old (all_lists self.old.plan (grids_at_end (run_of self.old m) (outcome_of (run_of self.old m)))) }
+    {
+        let before = self.initial.begins.as_slice()[0].steps;
+        settle_levels(
+            &self.plan,
+            before,
+            self.initial.grids.as_mut_slice()[0].as_mut_slice(),
+            self.scratch.as_mut_slice(),
+        )
+    }
+
+    /// The numbers of a level of a domain, in order k, j, i with i fastest. Domains count from 1, levels from 0.
+    pub fn grid(&self, domain: u32, field: u32) -> &[i32]
+        requires domain { IsDomain self.now.plan domain }
+        requires level { IsLevel self.now.plan field }
+        ensures { result.now ≡ slice_index_or (slice_index_or self.now.initial.grids (domain - 1) no_lists) field no_list }
+    {
+        self.initial.grids.as_slice()[domain as usize - 1].as_slice()[field as usize].as_slice()
+    }
 }
