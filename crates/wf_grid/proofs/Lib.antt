@@ -10,3 +10,4 @@ pub mod Steps
 pub mod Agreeing
 pub mod Running
 pub mod WholeScript
+pub mod Ready

@@ -1,6 +1,6 @@
 //! A run on whole domains.
 
-ghost use Rattle.std.specs.Prelude.{◌≡◌, ◌+◌, ◌-◌, ◌^◌, ◌<◌, ◌≤◌, All, IfOk, length, slice_index_or};
+ghost use Rattle.std.specs.Prelude.{◌≡◌, ℕ, ◌+◌, ◌-◌, ◌^◌, ◌<◌, ◌≤◌, All, IfOk, length, slice_index_or, slice_set};
 ghost use Rattle.wf_model.specs.Plans.{begin_of};
 ghost use Rattle.wf_model.specs.Value.{Answers};
 ghost use Rattle.wf_model.specs.Outcome.{outcome_of, no_list, no_lists};
@@ -39,15 +39,45 @@ fn settle_levels(
     None
 }
 
+/// Steps domain 1 of all domains through the run.
+fn settle_first(
+    plan: &Plan,
+    before: u64,
+    grids: &mut [List<List<i32>>],
+    scratch: &mut [i32],
+) -> Option<Point>
+    requires some { 0 < length grids.old }
+    requires lists { AreLists plan.now 1 (slice_index_or grids.old 0 no_lists) }
+    requires table { IsTable plan.now 1 }
+    requires items { length plan.now.items < 2 ^ 32 }
+    requires room { HasRoom plan.now 1 scratch.old }
+    requires steps { before + plan.now.steps < 2 ^ 64 }
+    ensures point { (m : Answers) → result ≡ (left_by_steps plan.now m 1 before (slice_index_or grids.old 0 no_lists)).point }
+    ensures numbers { (m : Answers) → grids.new ≡ slice_set grids.old 0 (left_by_steps plan.now m 1 before (slice_index_or grids.old 0 no_lists)).lists }
+{
+    settle_levels(plan, before, grids[0].as_mut_slice(), scratch)
+}
+
 /// The length of the longest list.
 fn longest(levels: &[List<i32>]) -> usize
-    ensures { All (λ list. length list ≤ result) levels.now }
+    ensures { (f : ℕ) → f < length levels.now → length (slice_index_or levels.now f no_list) ≤ result }
 {
     let mut most = 0;
     for level in levels {
-        most = most.max(level.as_slice().len());
+        let count = level.as_slice().len();
+        if most < count {
+            most = count;
+        }
     }
     most
+}
+
+/// The steps that domain 1 has behind it.
+fn steps_before(initial: &Initial) -> u64
+    requires { 1 ≤ length initial.now.begins }
+    ensures { result ≡ (begin_of initial.now.begins 1).steps }
+{
+    initial.begins.as_slice()[0].steps
 }
 
 /// A run on whole domains: its plan, how its domains begin, and the numbers that they hold.
@@ -101,11 +131,11 @@ impl Whole {
         ensures point { (m : Answers) → result ≡ point_at_end (outcome_of (run_of self.old m)) }
         ensures numbers { (m : Answers) → self.new ≡ held_with self.old (all_lists self.old.plan (grids_at_end (run_of self.old m) (outcome_of (run_of self.old m)))) }
     {
-        let before = self.initial.begins.as_slice()[0].steps;
-        settle_levels(
+        let before = steps_before(&self.initial);
+        settle_first(
             &self.plan,
             before,
-            self.initial.grids.as_mut_slice()[0].as_mut_slice(),
+            self.initial.grids.as_mut_slice(),
             self.scratch.as_mut_slice(),
         )
     }
