@@ -11,3 +11,4 @@ pub mod Agreeing
 pub mod Running
 pub mod WholeScript
 pub mod Ready
+pub mod SettledRun

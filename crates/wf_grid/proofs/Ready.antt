@@ -1,8 +1,13 @@
 -- A plan of one domain and what fits it are ready to be settled.
-use Rattle.std.proofs.Common.{◌≡◌, ℕ, ◌+◌, ◌-◌, ◌*◌, ◌^◌, ◌<◌, ◌≤◌, List, [], length, get_or, refl, sym, ap, subst, ◌∙◌, arith}
+use Rattle.std.proofs.Common.{◌≡◌, ℕ, zero, suc, Bool, true, false, ◌∷◌, set, take, drop, ◌++◌, get_or-set_same, length-set, ◌+◌, ◌-◌, ◌*◌, ◌^◌, ◌<◌, ◌≤◌, List, [], length, get_or, refl, sym, ap, subst, ◌∙◌, arith}
 use Rattle.std.proofs.lemmas.List.Elements.{All-nil}
-use Rattle.std.specs.List.{All}
-use Rattle.std.specs.Prelude.{ℤ, pos}
+use Rattle.std.specs.List.{All, range_with_len}
+use Rattle.std.proofs.Math.Nat.{zero-mul, suc-mul, mul-le-mul_left}
+use Rattle.std.proofs.lemmas.List.{take-append-le, take_all}
+use Rattle.std.proofs.lemmas.List.Sums.{sum_by-cons}
+use Rattle.std.specs.Prelude.{ℤ, pos, sum_by, map, ◌==◌, ◌||◌, if◌then◌else◌}
+use Rattle.wf_model.specs.Calendar.{is_leap, month_days, moment_of}
+use Rattle.wf_model.specs.Dates.{year_days, days_before, seconds_before, last_moment}
 use Rattle.wf_model.specs.declared.plan.Plan.{Plan}
 use Rattle.wf_model.specs.declared.plan.Phase.{Phase}
 use Rattle.wf_model.specs.declared.plan.Item.{Item}
@@ -18,6 +23,33 @@ use Rattle.wf_grid.specs.Levels.{AreLists}
 use Rattle.wf_grid.specs.Reading.{IsReadable, IsRunnable}
 use Rattle.wf_grid.specs.Takeable.{IsPair, IsTakeable, IsTable, HasRoom}
 use Rattle.wf_grid.specs.Held.{IsReady, HasLists, CallsNothing, first_lists}
+
+-- a sum of numbers up to a greatest
+sum_most : (f : ℕ → ℕ) (c : ℕ) → ((k : ℕ) → f k ≤ c) → (a n : ℕ) → sum_by f (range_with_len a n) ≤ n * c
+sum_most f c h a zero = omega (arith, zero-mul c)
+sum_most f c h a (suc n) = omega (arith, sum_by-cons f a (range_with_len (a + 1) n), h a, sum_most f c h (a + 1) n, suc-mul n c)
+
+-- the days of a year and of a month
+year_most : (y : ℕ) → year_days y ≤ 366
+year_most y = by (is_leap y)
+  where
+    by : (b : Bool) → (if b then 366 else 365) ≤ 366
+    by true = omega arith
+    by false = omega arith
+
+month_most : (y m : ℕ) → month_days y m ≤ 31
+month_most y m = by (m == 2) (is_leap y) ((m == 4) || (m == 6) || (m == 9) || (m == 11))
+  where
+    by : (a b c : Bool) → (if a then (if b then 29 else 28) else (if c then 30 else 31)) ≤ 31
+    by true true c = omega arith
+    by true false c = omega arith
+    by false b true = omega arith
+    by false b false = omega arith
+
+-- the seconds of the years 1 to 9999
+last_is_early : seconds_before last_moment < 2 ^ 62
+unfolding days_before
+last_is_early = omega (arith, sum_most year_days 366 year_most 1 9998, sum_most (month_days 9999) 31 (month_most 9999) 1 11)
 
 module _ (plan : Plan) (initial : Initial) (sound : IsSoundPlan plan) (ranged : IsRangedPlan plan) (fitting : IsFittingInitial plan initial) (lists : HasLists plan initial)
     (one : length plan.domains ≡ 1) (calls : All CallsNothing plan.items) where
@@ -69,6 +101,17 @@ module _ (plan : Plan) (initial : Initial) (sound : IsSoundPlan plan) (ranged : 
     each = λ f h. fitting.lists 1 f first_domain h;
   }
 
+  -- the steps are few, since the run ends by the last year that a date has
+  few_steps : (begin_of initial.begins 1).steps + plan.steps < 2 ^ 64
+  few_steps =
+      let before : (begin_of initial.begins 1).steps ≤ 1000000000 = (fitting.sound 1 first_domain).steps in
+      let times : plan.steps * 1 ≤ plan.steps * (domain_of plan 1).seconds = mul-le-mul_left plan.steps (sound.steps 1 first_domain) in
+      let finish : plan.steps * (domain_of plan 1).seconds ≤ seconds_before last_moment = rest (seconds_before (moment_of plan.start)) (plan.steps * (domain_of plan 1).seconds) (seconds_before last_moment) ranged.time.finish in
+      omega (arith, before, times, finish, last_is_early)
+    where
+      rest : (a b c : ℕ) → a + b ≤ c → b ≤ c
+      rest a b c h = omega arith
+
   -- with a scratch as long as the longest level
   pub ready : (scratch : List ℤ) → ((f : ℕ) → f < length (first_lists initial) → length (get_or (first_lists initial) f no_list) ≤ length scratch) → IsReady plan initial scratch
   ready scratch long = record {
@@ -81,5 +124,36 @@ module _ (plan : Plan) (initial : Initial) (sound : IsSoundPlan plan) (ranged : 
     table = table;
     items = omega (arith, ranged.limits.items);
     room = λ f h. let level : f < length (first_lists initial) = omega (arith, h, are.levels) in omega (arith, long f level, are.each f h);
-    steps = ?;
+    steps = few_steps;
   }
+
+-- after the run it is ready again
+pub ready_after : (plan : Plan) (initial : Initial) (scratch : List ℤ) (grids : List (List (List ℤ))) (used : List ℤ) → IsReady plan initial scratch → length grids ≡ 1 → AreLists plan 1 (get_or grids 0 no_lists) → length used ≡ length scratch →
+    IsReady plan (record { grids = grids; begins = initial.begins }) used
+ready_after plan initial scratch grids used r l are same = record {
+  sound = r.sound;
+  first = r.first;
+  one_domain = r.one_domain;
+  domains = l;
+  begins = r.begins;
+  lists = are;
+  table = r.table;
+  items = r.items;
+  room = λ f h. omega (arith, r.room f h, same);
+  steps = r.steps;
+}
+
+-- a list whose items were lent and came back
+pub lent_back : {X : Type 0} (xs ys : List X) → length ys ≡ length xs → take (length xs) (ys ++ drop (length ys) xs) ≡ ys
+lent_back xs ys e =
+    let h : length xs ≤ length ys = omega (arith, e) in
+    rw take-append-le (take_all (length xs) ys (omega (arith, e)))
+
+pub lent_back_at : {X : Type 0} (n : ℕ) (xs ys : List X) → n ≡ length xs → length ys ≡ length xs → take n (ys ++ drop (length ys) xs) ≡ ys
+lent_back_at n xs ys p e = ap (λ (k : ℕ). take k (ys ++ drop (length ys) xs)) p ∙ lent_back xs ys e
+
+-- the one list of lists, replaced
+pub only_one : {X : Type 0} (xs : List X) (v : X) → length xs ≡ 1 → set xs 0 v ≡ v ∷ []
+only_one [] v e = absurd (omega (arith, e))
+only_one (x ∷ []) v e = refl
+only_one (x ∷ y ∷ ys) v e = absurd (omega (arith, e))

@@ -53,6 +53,9 @@ fn settle_first(
     requires room { HasRoom plan.now 1 scratch.old }
     requires steps { before + plan.now.steps < 2 ^ 64 }
     ensures point { (m : Answers) → result ≡ (left_by_steps plan.now m 1 before (slice_index_or grids.old 0 no_lists)).point }
+    ensures are { AreLists plan.now 1 (slice_index_or grids.new 0 no_lists) }
+    ensures length { length grids.new ≡ length grids.old }
+    ensures scratch { length scratch.new ≡ length scratch.old }
     ensures numbers { (m : Answers) → grids.new ≡ slice_set grids.old 0 (left_by_steps plan.now m 1 before (slice_index_or grids.old 0 no_lists)).lists }
 {
     settle_levels(plan, before, grids[0].as_mut_slice(), scratch)
