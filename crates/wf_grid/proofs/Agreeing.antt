@@ -1,8 +1,7 @@
 -- Grids that agree on the points of a domain: what an item sets of them agrees too, and they have the same lists.
-use Rattle.std.proofs.Common.{◌≡◌, ℕ, ◌+◌, ◌-◌, ◌*◌, ◌<◌, ◌≤◌, Bool, true, false, List, map, length, get_or, refl, sym, ap, subst, ◌∙◌, arith, Some, None}
+use Rattle.std.proofs.Common.{◌≡◌, ℕ, ◌+◌, ◌<◌, ◌≤◌, Bool, true, false, List, map, length, get_or, refl, sym, ap, subst, ◌∙◌, arith}
 use Rattle.std.proofs.lemmas.List.FromFn.{length-map-range_with_len, get_or-map-range_with_len}
-use Rattle.std.specs.List.{All}
-use Rattle.std.specs.Prelude.{ℤ, pos, ◌+ℤ◌, Option, IsTrue, is_none, unwrap_or, find, ◌==◌, ◌&&◌, ◌||◌, if◌then◌else◌}
+use Rattle.std.specs.Prelude.{ℤ, pos, ◌+ℤ◌, is_none, unwrap_or, find, ◌==◌, ◌&&◌, ◌||◌, if◌then◌else◌}
 use Rattle.wf_model.specs.declared.plan.Plan.{Plan}
 use Rattle.wf_model.specs.declared.plan.Phase.{Phase}
 use Rattle.wf_model.specs.declared.plan.Item.{Item}
@@ -15,16 +14,14 @@ use Rattle.wf_model.specs.Grids.{Grids, listed, grid_from, level_list}
 use Rattle.wf_model.specs.Changes.{Change, Spot, nothing, changed, spots, overflows_at, overflow_in, in_region, sight_at, table_change, phase_change, swap_change}
 use Rattle.wf_model.specs.Sound.{IsLevel}
 use Rattle.wf_model.specs.Outcome.{no_list}
-use Rattle.wf_laws.specs.Values.{ShowAlike}
-use Rattle.wf_laws.proofs.Bools.{and_left, and_right, equal_of, differ}
+use Rattle.wf_laws.proofs.Bools.{and_left, and_right, equal_of}
 use Rattle.wf_laws.proofs.Entries.{nothing_changes}
 use Rattle.wf_laws.proofs.Places.{point-range}
 use Rattle.wf_laws.proofs.ValueLaws.{depends_on_reads}
-use Rattle.wf_grid.specs.Levels.{place_in, IsPlaceIn, grids_of, lists_of, AreLists}
+use Rattle.wf_grid.specs.Levels.{place_in, IsPlaceIn, grids_of, lists_of}
 use Rattle.wf_grid.specs.Reading.{IsReadable, IsRunnable}
 use Rattle.wf_grid.specs.Takeable.{IsPair, IsTakeable}
 use Rattle.wf_grid.proofs.Cells.{cells, length-cells, get_or-cells, PointOf, point_of, same_list}
-use Rattle.wf_grid.proofs.Finding.{find-none}
 
 -- the same number at each point of a domain
 pub record Agree (plan : Plan) (d : ℕ) (g h : Grids) : Type 0 where

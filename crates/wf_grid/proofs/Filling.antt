@@ -1,6 +1,6 @@
 -- One turn of the loop that computes a level: the points so far, and the next one.
-use Rattle.std.proofs.Common.{◌≡◌, ◌≢◌, ℕ, suc, ◌+◌, ◌-◌, ◌*◌, ◌<◌, ◌≤◌, List, length, get_or, set, refl, sym, ap, subst, ◌∙◌, arith, Some, None, below_more, get_or-set_other, get_or-set_same}
-use Rattle.std.specs.Prelude.{ℤ, pos, Option, is_none, false}
+use Rattle.std.proofs.Common.{◌≡◌, ◌≢◌, ℕ, ◌+◌, ◌-◌, ◌*◌, ◌<◌, ◌≤◌, List, length, get_or, set, refl, sym, ap, subst, ◌∙◌, arith, Some, None, below_more, get_or-set_other, get_or-set_same}
+use Rattle.std.specs.Prelude.{ℤ, pos, is_none}
 use Rattle.wf_model.specs.declared.plan.Plan.{Plan}
 use Rattle.wf_model.specs.declared.plan.Phase.{Phase}
 use Rattle.wf_model.specs.declared.plan.Domain.{Domain}
@@ -12,7 +12,7 @@ use Rattle.wf_grid.specs.declared.extents.Extents.{Extents}
 use Rattle.wf_grid.specs.declared.extents.Here.{Here}
 use Rattle.wf_grid.specs.Following.{IsNext}
 use Rattle.wf_grid.specs.Levels.{place_in, IsPlaceIn, level_spots}
-use Rattle.wf_grid.specs.Filled.{spot_of, spot_at, phase_number, IsFilled, IsStopped, StopsAt}
+use Rattle.wf_grid.specs.Filled.{spot_at, phase_number, IsFilled, StopsAt}
 use Rattle.wf_grid.proofs.Cells.{cells, length-cells, get_or-cells, level_within}
 
 -- as many points as numbers in the list

@@ -1,6 +1,6 @@
 -- What one item leaves: nothing is done, two levels are exchanged, or a phase is done.
-use Rattle.std.proofs.Common.{◌≡◌, ◌⊎◌, inl, inr, ◌≢◌, ℕ, ◌+◌, ◌*◌, ◌<◌, ◌≤◌, Bool, true, false, List, [], ◌∷◌, length, get_or, set, refl, sym, ap, subst, ◌∙◌, arith, Some, None, length-set, get_or-set_other, get_or-set_same}
-use Rattle.std.specs.Prelude.{ℤ, pos, Option, option_map, is_none, find, ◌==◌, ◌||◌, ◌&&◌, if◌then◌else◌}
+use Rattle.std.proofs.Common.{◌≡◌, ◌⊎◌, inl, inr, ◌≢◌, ℕ, ◌*◌, ◌<◌, Bool, true, false, List, [], ◌∷◌, length, get_or, set, refl, sym, ap, subst, ◌∙◌, arith, Some, None, length-set, get_or-set_other, get_or-set_same}
+use Rattle.std.specs.Prelude.{ℤ, pos, Option, option_map, is_none, ◌==◌, ◌||◌, ◌&&◌, if◌then◌else◌}
 use Rattle.std.specs.List.{swap}
 use Rattle.wf_model.specs.declared.plan.Plan.{Plan}
 use Rattle.wf_model.specs.declared.plan.Phase.{Phase}
@@ -13,7 +13,6 @@ use Rattle.wf_model.specs.declared.point.What.TheVariants as what
 use Rattle.wf_model.specs.declared.script.Act.TheVariants.{Table}
 use Rattle.wf_model.specs.Plans.{item_of, nx, ny, nz}
 use Rattle.wf_model.specs.Value.{Answers}
-use Rattle.wf_model.specs.Grids.{Grids}
 use Rattle.wf_model.specs.Changes.{Change, Spot, nothing, changed, spots, overflows_at, overflow_in, table_change, phase_change, swap_change}
 use Rattle.wf_model.specs.Script.{entry}
 use Rattle.wf_model.specs.Sound.{IsLevel}
@@ -22,9 +21,9 @@ use Rattle.std.proofs.lemmas.List.{get_or_default}
 use Rattle.wf_laws.proofs.Bools.{same_number}
 use Rattle.wf_laws.proofs.Entries.{nothing_changes}
 use Rattle.wf_grid.specs.declared.extents.Here.{Here}
-use Rattle.wf_grid.specs.Levels.{place_in, IsPlaceIn, grids_of, lists_of, AreLists, number_after}
+use Rattle.wf_grid.specs.Levels.{place_in, grids_of, lists_of, AreLists, number_after}
 use Rattle.wf_grid.specs.Filled.{spot_of}
-use Rattle.wf_grid.specs.Stepped.{Left, item_change, item_point, lists_after, left_by_item}
+use Rattle.wf_grid.specs.Stepped.{Left, item_change, lists_after, left_by_item}
 use Rattle.wf_grid.specs.Takeable.{IsPair}
 use Rattle.wf_grid.proofs.Finding.{find-none}
 use Rattle.wf_grid.proofs.Lists.{lists_are, number_in}

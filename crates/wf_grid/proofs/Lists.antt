@@ -1,6 +1,5 @@
 -- The lists of a domain's levels, and the grids that they stand for.
-use Rattle.std.proofs.Common.{◌≡◌, ℕ, ◌+◌, ◌-◌, ◌*◌, ◌<◌, ◌≤◌, List, map, length, get_or, refl, sym, ap, subst, ◌∙◌, arith}
-use Rattle.std.proofs.Math.Nat.{mul_assoc}
+use Rattle.std.proofs.Common.{◌≡◌, ℕ, ◌+◌, ◌-◌, ◌*◌, ◌<◌, List, map, length, get_or, refl, sym, ap, subst, ◌∙◌, arith}
 use Rattle.std.proofs.lemmas.Nat.{mul-add-lt}
 use Rattle.std.proofs.lemmas.List.FromFn.{length-map-range_with_len, get_or-map-range_with_len}
 use Rattle.std.specs.Prelude.{ℤ, pos}
@@ -9,7 +8,7 @@ use Rattle.wf_model.specs.Plans.{nx, ny, nz, levels_of}
 use Rattle.wf_model.specs.Grids.{Grid, Grids, listed, grid_from, level_list}
 use Rattle.wf_model.specs.Sound.{IsLevel}
 use Rattle.wf_model.specs.Outcome.{no_list}
-use Rattle.wf_grid.specs.Levels.{place_in, IsPlaceIn, grids_of, lists_of, AreLists}
+use Rattle.wf_grid.specs.Levels.{place_in, IsPlaceIn, grids_of, lists_of}
 use Rattle.wf_grid.proofs.Cells.{cells, length-cells, get_or-cells, PointOf, point_of, same_list}
 
 -- the place of a point lies in the list

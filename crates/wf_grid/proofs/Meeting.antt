@@ -1,5 +1,5 @@
 -- The point that a read meets, from the parts that the code computes.
-use Rattle.std.proofs.Common.{◌≡◌, ℕ, ◌+◌, ◌≤◌, Bool, refl, sym, ap, subst, ◌∙◌, arith}
+use Rattle.std.proofs.Common.{◌≡◌, ℕ, ◌+◌, Bool, ◌∙◌}
 use Rattle.std.specs.Prelude.{ℤ, pos, ◌||◌, IsTrue}
 use Rattle.wf_model.specs.declared.plan.Plan.{Plan}
 use Rattle.wf_model.specs.Plans.{domain_of, nx, ny, wrapped}

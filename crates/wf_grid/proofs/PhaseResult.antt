@@ -1,6 +1,6 @@
 -- A level that was computed whole is the level after the phase; and a point without a number is the first that overflows.
-use Rattle.std.proofs.Common.{◌≡◌, ◌≢◌, ℕ, ◌+◌, ◌*◌, ◌<◌, ◌≤◌, Bool, true, false, cond, List, length, get_or, set, refl, sym, ap, subst, ◌∙◌, arith, Some, None, length-set, get_or-set_other, get_or-set_same}
-use Rattle.std.specs.Prelude.{ℤ, pos, Option, option_map, IfSome, is_none, unwrap_or, find, nat_eq, ◌==◌, ◌&&◌, if◌then◌else◌}
+use Rattle.std.proofs.Common.{◌≡◌, ◌≢◌, ℕ, ◌*◌, ◌<◌, Bool, true, false, List, length, get_or, set, refl, sym, ap, subst, ◌∙◌, arith, Some, None, length-set, get_or-set_other, get_or-set_same}
+use Rattle.std.specs.Prelude.{ℤ, pos, Option, option_map, IfSome, is_none, unwrap_or, find, ◌==◌, ◌&&◌, if◌then◌else◌}
 use Rattle.wf_model.specs.declared.plan.Plan.{Plan}
 use Rattle.wf_model.specs.declared.plan.Phase.{Phase}
 use Rattle.wf_model.specs.Plans.{nx, ny, nz}
@@ -12,7 +12,7 @@ use Rattle.wf_model.specs.Outcome.{no_list}
 use Rattle.wf_laws.proofs.Bools.{same_number}
 use Rattle.wf_grid.specs.Levels.{place_in, IsPlaceIn, level_spots, grids_of, lists_of, AreLists, number_after}
 use Rattle.wf_grid.specs.declared.extents.Here.{Here}
-use Rattle.wf_grid.specs.Filled.{spot_of, spot_at, phase_number, IsFilled, IsStopped, StopsAt}
+use Rattle.wf_grid.specs.Filled.{spot_of, spot_at, phase_number, IsFilled, StopsAt}
 use Rattle.wf_grid.proofs.Cells.{PointOf, point_of}
 use Rattle.wf_grid.proofs.Filling.{length-spots, spot_is}
 use Rattle.wf_grid.proofs.Finding.{find-none, find-at, find-one}

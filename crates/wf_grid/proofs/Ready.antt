@@ -1,11 +1,10 @@
 -- A plan of one domain and what fits it are ready to be settled.
-use Rattle.std.proofs.Common.{◌≡◌, ℕ, zero, suc, Bool, true, false, ◌∷◌, set, take, drop, ◌++◌, get_or-set_same, length-set, ◌+◌, ◌-◌, ◌*◌, ◌^◌, ◌<◌, ◌≤◌, List, [], length, get_or, refl, sym, ap, subst, ◌∙◌, arith}
-use Rattle.std.proofs.lemmas.List.Elements.{All-nil}
+use Rattle.std.proofs.Common.{◌≡◌, ℕ, zero, suc, Bool, true, false, ◌∷◌, set, take, drop, ◌++◌, ◌+◌, ◌-◌, ◌*◌, ◌^◌, ◌<◌, ◌≤◌, List, [], length, get_or, refl, ap, subst, ◌∙◌, arith}
 use Rattle.std.specs.List.{All, range_with_len}
 use Rattle.std.proofs.Math.Nat.{zero-mul, suc-mul, mul-le-mul_left}
 use Rattle.std.proofs.lemmas.List.{take-append-le, take_all}
 use Rattle.std.proofs.lemmas.List.Sums.{sum_by-cons}
-use Rattle.std.specs.Prelude.{ℤ, pos, sum_by, map, ◌==◌, ◌||◌, if◌then◌else◌}
+use Rattle.std.specs.Prelude.{ℤ, sum_by, ◌==◌, ◌||◌, if◌then◌else◌}
 use Rattle.wf_model.specs.Calendar.{is_leap, month_days, moment_of}
 use Rattle.wf_model.specs.Dates.{year_days, days_before, seconds_before, last_moment}
 use Rattle.wf_model.specs.declared.plan.Plan.{Plan}
@@ -14,14 +13,13 @@ use Rattle.wf_model.specs.declared.plan.Item.{Item}
 use Rattle.wf_model.specs.declared.plan.Item.TheVariants as item
 use Rattle.wf_model.specs.declared.initial.Initial.{Initial}
 use Rattle.wf_model.specs.Plans.{domain_of, field_of, item_of, no_item, no_field, begin_of, nx, ny, nz}
-use Rattle.wf_model.specs.Reads.{reads_of}
 use Rattle.wf_model.specs.ExprFacts.{parts_of}
-use Rattle.wf_model.specs.Ranges.{IsRangedItem, IsRangedField, IsRangedDomain, IsRangedPhase}
-use Rattle.wf_model.specs.Sound.{IsDomain, IsLevel, IsSoundPlan, IsRangedPlan, IsFittingInitial, IsSoundItem, IsSoundPhase, IsSoundRead}
+use Rattle.wf_model.specs.Ranges.{IsRangedItem, IsRangedPhase}
+use Rattle.wf_model.specs.Sound.{IsDomain, IsLevel, IsSoundPlan, IsRangedPlan, IsFittingInitial, IsSoundItem, IsSoundPhase}
 use Rattle.wf_model.specs.Outcome.{no_list, no_lists}
 use Rattle.wf_grid.specs.Levels.{AreLists}
-use Rattle.wf_grid.specs.Reading.{IsReadable, IsRunnable}
-use Rattle.wf_grid.specs.Takeable.{IsPair, IsTakeable, IsTable, HasRoom}
+use Rattle.wf_grid.specs.Reading.{IsRunnable}
+use Rattle.wf_grid.specs.Takeable.{IsTakeable, IsTable}
 use Rattle.wf_grid.specs.Held.{IsReady, HasLists, CallsNothing, first_lists}
 
 -- a sum of numbers up to a greatest

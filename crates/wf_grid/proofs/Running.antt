@@ -1,28 +1,24 @@
 -- A run of one domain by the definitions, entry by entry, and what the steps leave of its lists.
-use Rattle.std.proofs.Common.{◌≡◌, ℕ, zero, suc, ◌+◌, ◌-◌, ◌*◌, ◌/◌, ◌<◌, ◌≤◌, Bool, true, false, List, [], ◌∷◌, ◌++◌, map, take, length, get_or, refl, sym, ap, subst, ◌∙◌, arith, Option, Some, None, Result, Ok, Err}
-use Rattle.std.specs.Prelude.{ℤ, pos, fold, flat_map, filter, option_map, ◌==◌, ◌||◌, if◌then◌else◌, nat_lt}
+use Rattle.std.proofs.Common.{◌≡◌, ℕ, zero, suc, ◌+◌, ◌-◌, ◌<◌, ◌≤◌, List, [], ◌∷◌, ◌++◌, map, take, length, refl, sym, ap, ◌∙◌, arith, Option, Some, None, Result, Ok, Err}
+use Rattle.std.specs.Prelude.{ℤ, fold, option_map}
 use Rattle.std.specs.List.{range_with_len}
-use Rattle.std.proofs.Math.Nat.{mul-div_cancel}
-use Rattle.wf_model.specs.declared.plan.Plan.{Plan}
-use Rattle.wf_model.specs.declared.plan.Item.{Item}
 use Rattle.wf_model.specs.declared.point.Point.{Point}
 use Rattle.wf_model.specs.declared.point.What.TheVariants as what
 use Rattle.wf_model.specs.declared.script.Act.TheVariants.{Table, Emit}
 use Rattle.wf_model.specs.declared.script.Entry.{Entry}
-use Rattle.wf_model.specs.Plans.{domain_of, item_of, begin_of, children, nx, ny, levels_of, up_to}
-use Rattle.wf_model.specs.Value.{Answers}
-use Rattle.wf_model.specs.Grids.{Grids, grid_from}
+use Rattle.wf_model.specs.Plans.{item_of, nx, ny}
+use Rattle.wf_model.specs.Grids.{Grids}
 use Rattle.wf_model.specs.Changes.{Change, Spot, nothing, changed, overflow_in, table_change}
-use Rattle.wf_model.specs.Script.{entry, step_of, script_of, steps_by}
+use Rattle.wf_model.specs.Script.{entry}
 use Rattle.wf_model.specs.Sound.{IsLevel}
-use Rattle.wf_model.specs.Outcome.{RunData, Overflow, script, begin_grids, input_grids, change_of, grids_after, grids_at, overflow_of, point_of, or_go_on, outcome_from, outcome_of, no_lists, no_list}
+use Rattle.wf_model.specs.Outcome.{RunData, Overflow, script, begin_grids, change_of, grids_after, grids_at, overflow_of, point_of, or_go_on, outcome_from, outcome_of}
 use Rattle.wf_laws.proofs.Entries.{nothing_changes}
 use Rattle.wf_grid.specs.Levels.{grids_of, lists_of, AreLists}
-use Rattle.wf_grid.specs.Stepped.{Left, and_on, left_by, left_by_item, left_by_step, left_by_steps, lists_after, item_change, item_point}
+use Rattle.wf_grid.specs.Stepped.{Left, and_on, left_by, left_by_item, lists_after}
 use Rattle.wf_grid.specs.Takeable.{IsTakeable, IsTable}
-use Rattle.wf_grid.specs.Held.{point_at_end, grids_at_end, first_lists}
+use Rattle.wf_grid.specs.Held.{point_at_end, grids_at_end}
 use Rattle.wf_grid.proofs.Agreeing.{Agree, grids_back, lists_agree, item_same, overflow_same}
-use Rattle.wf_grid.proofs.Items.{nothing_over, lists_same}
+use Rattle.wf_grid.proofs.Items.{nothing_over}
 
 -- the point that overflowed, if one did, and the grids then
 pub record Ran : Type 0 where

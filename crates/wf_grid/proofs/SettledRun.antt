@@ -1,16 +1,12 @@
 -- What is left by all steps is what the outcome of the run tells.
-use Rattle.std.proofs.Common.{◌≡◌, ℕ, ◌+◌, ◌-◌, ◌<◌, ◌≤◌, List, [], ◌∷◌, map, length, get_or, set, take, drop, ◌++◌, refl, sym, ap, subst, ◌∙◌, arith}
-use Rattle.std.specs.Prelude.{ℤ, pos, Option, ◌==◌, ◌||◌}
-use Rattle.wf_model.specs.declared.plan.Plan.{Plan}
-use Rattle.wf_model.specs.declared.initial.Initial.{Initial}
-use Rattle.wf_model.specs.declared.point.Point.{Point}
-use Rattle.wf_model.specs.Plans.{domain_of, begin_of, nx, ny, up_to, domains_of}
+use Rattle.std.proofs.Common.{◌≡◌, ℕ, List, [], ◌∷◌, map, set, refl, sym, ap, ◌∙◌, arith}
+use Rattle.std.specs.Prelude.{ℤ}
+use Rattle.wf_model.specs.Plans.{begin_of, up_to}
 use Rattle.wf_model.specs.Value.{Answers}
 use Rattle.wf_model.specs.Grids.{Grids}
-use Rattle.wf_model.specs.Sound.{IsLevel}
-use Rattle.wf_model.specs.Outcome.{outcome_of, begin_grids, no_lists}
-use Rattle.wf_grid.specs.Levels.{grids_of, lists_of, AreLists}
-use Rattle.wf_grid.specs.Stepped.{Left, left_by_steps}
+use Rattle.wf_model.specs.Outcome.{outcome_of, begin_grids}
+use Rattle.wf_grid.specs.Levels.{grids_of, lists_of}
+use Rattle.wf_grid.specs.Stepped.{left_by_steps}
 use Rattle.wf_grid.specs.Held.{Held, run_of, held_with, all_lists, point_at_end, grids_at_end, first_lists, IsReady}
 use Rattle.wf_grid.proofs.Items.{lists_same}
 use Rattle.wf_grid.proofs.Agreeing.{Agree, lists_agree}

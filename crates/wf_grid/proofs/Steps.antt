@@ -1,15 +1,14 @@
 -- One turn more of items or steps that go on until one overflows.
-use Rattle.std.proofs.Common.{◌≡◌, ℕ, suc, ◌+◌, ◌-◌, ◌*◌, ◌<◌, ◌≤◌, List, [], ◌∷◌, map, length, get_or, refl, sym, ap, subst, ◌∙◌, arith, Some, None}
+use Rattle.std.proofs.Common.{◌≡◌, ℕ, suc, ◌+◌, ◌-◌, ◌<◌, ◌≤◌, List, ◌∷◌, length, sym, ap, ◌∙◌, arith, Some, None}
 use Rattle.std.proofs.lemmas.List.FromFn.{length-map-range_with_len, get_or-map-range_with_len}
 use Rattle.std.specs.Prelude.{ℤ, Option}
 use Rattle.std.specs.List.{range_with_len}
 use Rattle.wf_model.specs.declared.plan.Plan.{Plan}
 use Rattle.wf_model.specs.declared.point.Point.{Point}
-use Rattle.wf_model.specs.Plans.{nx, ny, nz, levels_of}
+use Rattle.wf_model.specs.Plans.{nx, ny, nz}
 use Rattle.wf_model.specs.Value.{Answers}
 use Rattle.wf_model.specs.Grids.{Grids, level_list, listed}
 use Rattle.wf_model.specs.Changes.{Change, changed}
-use Rattle.wf_model.specs.Sound.{IsLevel}
 use Rattle.wf_model.specs.Outcome.{no_list}
 use Rattle.wf_grid.specs.Levels.{AreLists, grids_of, lists_of}
 use Rattle.wf_grid.specs.Stepped.{Left, and_on, left_by, left_by_item, lists_after, item_change, item_point}

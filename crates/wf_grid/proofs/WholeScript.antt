@@ -1,20 +1,19 @@
 -- The script of a run of one domain: its frames do nothing, and its steps are the items of the table.
-use Rattle.std.proofs.Common.{◌≡◌, ℕ, zero, suc, ◌+◌, ◌-◌, ◌*◌, ◌/◌, ◌<◌, ◌≤◌, Bool, true, false, List, [], ◌∷◌, ◌++◌, map, length, get_or, refl, sym, ap, subst, ◌∙◌, arith, Option, Some, None}
+use Rattle.std.proofs.Common.{◌≡◌, ℕ, zero, suc, ◌+◌, ◌-◌, ◌*◌, ◌/◌, ◌<◌, ◌≤◌, Bool, true, false, List, [], ◌++◌, map, length, refl, sym, ap, ◌∙◌, arith, Option, Some, None}
 use Rattle.std.proofs.Math.Nat.{mul-div_cancel}
-use Rattle.std.specs.Prelude.{ℤ, pos, flat_map, filter, not, ◌==◌, ◌&&◌, ◌||◌, if◌then◌else◌, nat_lt, nat_le}
+use Rattle.std.specs.Prelude.{ℤ, pos, flat_map, filter, ◌==◌, ◌||◌, if◌then◌else◌, nat_lt}
 use Rattle.std.specs.List.{range_with_len}
 use Rattle.wf_model.specs.declared.plan.Plan.{Plan}
-use Rattle.wf_model.specs.declared.initial.Begin.{Begin}
 use Rattle.wf_model.specs.declared.point.Point.{Point}
-use Rattle.wf_model.specs.declared.script.Act.TheVariants.{Table, Emit, Start, Force, Feedback}
+use Rattle.wf_model.specs.declared.script.Act.TheVariants.{Emit}
 use Rattle.wf_model.specs.declared.script.Entry.{Entry}
 use Rattle.wf_model.specs.Plans.{domain_of, begin_of, children, domains_of, up_to, nx, ny}
 use Rattle.wf_model.specs.Grids.{Grids}
-use Rattle.wf_model.specs.Script.{entry, step_of, script_of, steps_by, begin_time, start_frames, due_frames, restart_frames, restart_stream, table, is_due, interval, not_before}
+use Rattle.wf_model.specs.Script.{entry, step_of, script_of, steps_by, begin_time, start_frames, due_frames, restart_frames, restart_stream, table, is_due, not_before}
 use Rattle.wf_model.specs.Sound.{IsLevel}
 use Rattle.wf_model.specs.Outcome.{RunData, script, begin_grids, outcome_of}
 use Rattle.wf_grid.specs.Levels.{lists_of, AreLists}
-use Rattle.wf_grid.specs.Stepped.{Left, and_on, left_by, left_by_item, left_by_step, left_by_steps}
+use Rattle.wf_grid.specs.Stepped.{Left, and_on, left_by, left_by_step, left_by_steps}
 use Rattle.wf_grid.specs.Takeable.{IsTable}
 use Rattle.wf_grid.specs.Held.{point_at_end, grids_at_end}
 use Rattle.wf_grid.proofs.Running.{Ran, run_on, run_from, seen, run_told, run-append, run-before, run-after, frames-idle, items-seen}

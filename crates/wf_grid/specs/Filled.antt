@@ -4,8 +4,7 @@ use Rattle.wf_model.specs.declared.plan.Plan.{Plan}
 use Rattle.wf_model.specs.declared.plan.Phase.{Phase}
 use Rattle.wf_model.specs.Plans.{nx, ny, nz}
 use Rattle.wf_model.specs.Value.{Answers}
-use Rattle.wf_model.specs.Changes.{Change, Spot, phase_change}
-use Rattle.wf_model.specs.Grids.{Grids}
+use Rattle.wf_model.specs.Changes.{Spot, phase_change}
 use Rattle.wf_grid.specs.declared.extents.Extents.{Extents}
 use Rattle.wf_grid.specs.declared.extents.Here.{Here}
 use Rattle.wf_grid.specs.Levels.{grids_of, level_spots, number_after}

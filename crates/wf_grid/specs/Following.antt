@@ -1,5 +1,5 @@
 -- The point that follows another in the order of a level's list.
-use Rattle.std.specs.Prelude.{◌≡◌, ℕ, ◌+◌, ◌≤◌, ◌<◌}
+use Rattle.std.specs.Prelude.{◌≡◌, ℕ, ◌+◌, ◌≤◌}
 use Rattle.wf_grid.specs.declared.extents.Here.{Here}
 use Rattle.wf_grid.specs.Levels.{place_in}
 

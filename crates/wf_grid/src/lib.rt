@@ -7,9 +7,6 @@ mod extents;
 mod item;
 mod phase;
 mod surroundings;
+mod whole;
 
 pub use whole::Whole;
-
-#[cfg(test)]
-mod tests;
-mod whole;

@@ -1,6 +1,6 @@
 use Rattle.std.proofs.Common.{arith}
 use Rattle.std.proofs.lemmas.Int.{ints}
-use Rattle.std.specs.Prelude.{ℤ, pos, ◌+ℤ◌, FitsSigned}
+use Rattle.std.specs.Prelude.{pos, ◌+ℤ◌, FitsSigned}
 use mir.Syntax.{w64}
 use Rattle.wf_grid.proofs.Wrapping.{wrap_is}
 use Rattle.wf_grid.proofs.extents.wrapped_place.Goals as goal

@@ -1,4 +1,4 @@
-use Rattle.std.proofs.Common.{◌≡◌, ◌<◌, length, ap, ◌∙◌, arith, get_or, List}
+use Rattle.std.proofs.Common.{length, ap, ◌∙◌, arith, get_or, List}
 use Rattle.std.proofs.lemmas.List.{get_or_read}
 use Rattle.wf_model.specs.declared.plan.Item.{Item}
 use Rattle.wf_model.specs.Plans.{item_of, no_item}

@@ -1,5 +1,4 @@
-use Rattle.std.proofs.Common.{◌≡◌, sym, ap, subst, ◌∙◌, List}
-use Rattle.std.specs.Prelude.{ℤ}
+use Rattle.std.proofs.Common.{sym, ap, subst, ◌∙◌}
 use Rattle.std.specs.List.{swap}
 use Rattle.wf_grid.specs.Stepped.{Left}
 use Rattle.wf_grid.specs.Takeable.{IsPair, IsTakeable}

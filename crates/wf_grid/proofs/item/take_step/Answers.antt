@@ -1,6 +1,5 @@
-use Rattle.std.proofs.Common.{◌≡◌, ℕ, ◌<◌, ◌≤◌, length, sym, ap, subst, ◌∙◌, arith, List, Some, None}
-use Rattle.std.specs.Prelude.{ℤ, pos, Option}
-use Rattle.wf_model.specs.declared.point.Point.{Point}
+use Rattle.std.proofs.Common.{◌<◌, ◌≤◌, length, sym, ap, subst, ◌∙◌, arith}
+use Rattle.std.specs.Prelude.{pos}
 use Rattle.wf_model.specs.Value.{Answers}
 use Rattle.wf_grid.specs.Levels.{AreLists}
 use Rattle.wf_grid.specs.Stepped.{Left, left_by_item, left_by_step}

@@ -1,10 +1,10 @@
-use Rattle.std.proofs.Common.{◌≡◌, ℕ, ◌+◌, ◌-◌, ◌*◌, ◌<◌, List, length, ap, subst, ◌∙◌, sym, arith, get_or, set, rules}
+use Rattle.std.proofs.Common.{ℕ, ◌+◌, ◌*◌, ◌<◌, length, ap, subst, ◌∙◌, sym, arith, set, rules}
 use Rattle.std.proofs.lemmas.Int.{to_z-of_z}
-use Rattle.std.specs.Prelude.{ℤ, pos, FitsSigned}
+use Rattle.std.specs.Prelude.{ℤ, FitsSigned}
 use mir.Syntax.{w32}
-use Rattle.wf_model.specs.Plans.{nx, ny, nz, extra}
-use Rattle.wf_grid.specs.Levels.{place_in, IsPlaceIn}
-use Rattle.wf_grid.specs.Filled.{spot_of, spot_at, IsFilled}
+use Rattle.wf_model.specs.Plans.{nx, ny, nz}
+use Rattle.wf_grid.specs.Levels.{IsPlaceIn}
+use Rattle.wf_grid.specs.Filled.{spot_of, IsFilled}
 use Rattle.wf_grid.specs.Following.{IsNext}
 use Rattle.wf_grid.proofs.Filling.{spot_is, inside_at, in_extents, next_in_extents, filled_more, stops}
 use Rattle.wf_grid.proofs.phase.fill.Goals as goal

@@ -1,4 +1,4 @@
-use Rattle.std.proofs.Common.{◌≡◌, sym, ◌∙◌}
+use Rattle.std.proofs.Common.{sym, ◌∙◌}
 use Rattle.wf_grid.proofs.phase.number_after.Goals as goal
 
 pub eval-requires : goal.eval-requires

@@ -1,6 +1,5 @@
-use Rattle.std.proofs.Common.{◌≡◌, ◌*◌, length, rules, sym, ◌∙◌, None, ap, arith, false, true, get_or}
+use Rattle.std.proofs.Common.{◌≡◌, ◌∙◌, None, ap, arith, false}
 use Rattle.std.specs.Prelude.{Option, is_some, not}
-use Rattle.wf_model.specs.Plans.{nx, ny, nz}
 use Rattle.wf_grid.specs.declared.extents.Here.{Here}
 use Rattle.wf_grid.proofs.PhaseResult.{names, sets}
 use Rattle.wf_grid.proofs.phase.run_phase.Goals as goal

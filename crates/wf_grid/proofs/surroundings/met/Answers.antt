@@ -1,9 +1,9 @@
-use Rattle.std.proofs.Common.{◌≡◌, ◌+◌, ◌-◌, ap, ◌∙◌, sym}
+use Rattle.std.proofs.Common.{◌+◌, ◌-◌, ap, ◌∙◌}
 use Rattle.std.proofs.lemmas.Int.{to_z-of_z}
 use Rattle.std.specs.Prelude.{ℤ, pos, ◌+ℤ◌}
 use mir.Syntax.{w32}
 use Rattle.wf_model.specs.declared.plan.Domain.{Domain}
-use Rattle.wf_model.specs.Plans.{extra, nx, ny}
+use Rattle.wf_model.specs.Plans.{extra}
 use Rattle.wf_grid.proofs.Meeting.{inside_x, inside_y}
 use Rattle.wf_grid.proofs.surroundings.met.Goals as goal
 

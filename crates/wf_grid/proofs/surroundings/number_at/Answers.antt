@@ -1,7 +1,7 @@
-use Rattle.std.proofs.Common.{◌≡◌, ◌<◌, ◌+◌, ◌-◌, List, length, ap, ◌∙◌, sym, arith, get_or, rules}
+use Rattle.std.proofs.Common.{◌≡◌, ◌<◌, ◌+◌, ◌-◌, length, ◌∙◌, arith, get_or, rules}
 use Rattle.std.proofs.lemmas.Int.{to_z-of_z}
 use Rattle.std.proofs.lemmas.List.{get_or_read}
-use Rattle.std.specs.Prelude.{ℤ, pos, FitsSigned}
+use Rattle.std.specs.Prelude.{pos, FitsSigned}
 use mir.Syntax.{w32}
 use Rattle.wf_model.specs.Plans.{nx, ny, extra}
 use Rattle.wf_model.specs.Grids.{grid_from}

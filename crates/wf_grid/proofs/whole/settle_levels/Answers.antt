@@ -1,8 +1,6 @@
-use Rattle.std.proofs.Common.{◌≡◌, ℕ, ◌+◌, ◌<◌, ◌≤◌, sym, ap, ◌∙◌, arith, List}
-use Rattle.std.specs.Prelude.{ℤ}
+use Rattle.std.proofs.Common.{◌+◌, sym, ap, ◌∙◌, arith}
 use Rattle.wf_grid.specs.Stepped.{Left, left_by_step, left_by_steps}
 use Rattle.wf_grid.proofs.Steps.{goes_on, stops, ends}
-use Rattle.wf_grid.proofs.WholeScript.{steps-settle}
 use Rattle.wf_grid.proofs.whole.settle_levels.Goals as goal
 
 pub returns-in-Some-clause-point : goal.returns-in-Some-clause-point

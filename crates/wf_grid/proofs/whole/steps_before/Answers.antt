@@ -1,4 +1,4 @@
-use Rattle.std.proofs.Common.{◌≡◌, ap, get_or, List}
+use Rattle.std.proofs.Common.{ap, get_or, List}
 use Rattle.wf_model.specs.declared.initial.Begin.{Begin}
 use Rattle.wf_model.specs.Plans.{begin_of, no_begin}
 use Rattle.wf_grid.proofs.whole.steps_before.Goals as goal

@@ -1,10 +1,8 @@
-use Rattle.std.proofs.Common.{◌≡◌, ℕ, ◌+◌, ◌≤◌, List, length, take, drop, set, get_or, ◌++◌, sym, ap, subst, ◌∙◌, arith}
-use Rattle.std.specs.Prelude.{ℤ, Option}
-use Rattle.wf_model.specs.declared.point.Point.{Point}
-use Rattle.wf_model.specs.Value.{Answers}
+use Rattle.std.proofs.Common.{◌≡◌, List, length, take, drop, set, get_or, ◌++◌, sym, ap, subst, ◌∙◌, arith}
+use Rattle.std.specs.Prelude.{ℤ}
 use Rattle.wf_model.specs.Outcome.{outcome_of, no_lists}
 use Rattle.wf_grid.specs.Stepped.{Left, left_by_steps}
-use Rattle.wf_grid.specs.Held.{Held, run_of, held_with, all_lists, point_at_end, grids_at_end, first_lists, IsReady}
+use Rattle.wf_grid.specs.Held.{Held, run_of, held_with, all_lists, point_at_end, grids_at_end, IsReady}
 use Rattle.wf_grid.proofs.Ready.{ready_after, lent_back, lent_back_at}
 use Rattle.wf_grid.proofs.SettledRun.{settled, holds}
 use Rattle.wf_grid.proofs.whole.Whole.settle.Goals as goal
