@@ -1,0 +1,14 @@
+pub mod Wrapping
+pub mod Meeting
+pub mod Cells
+pub mod Filling
+pub mod Finding
+pub mod Lists
+pub mod PhaseResult
+pub mod Items
+pub mod Steps
+pub mod Agreeing
+pub mod Running
+pub mod WholeScript
+pub mod Ready
+pub mod SettledRun

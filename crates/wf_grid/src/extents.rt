@@ -1,0 +1,134 @@
+//! The extents of field levels, and the places of points in their lists.
+
+ghost use Rattle.std.specs.Prelude.{◌≡◌, ℕ, ◌+◌, ◌-◌, ◌*◌, ◌^◌, ◌<◌, ◌≤◌, ◌||◌, IsTrue, pos, ◌+ℤ◌};
+ghost use Rattle.wf_model.specs.Plans.{domain_of, field_of, extra, is_inside, wrapped};
+ghost use Rattle.wf_model.specs.Sound.{IsDomain, IsLevel};
+ghost use Rattle.wf_model.specs.Patches.{in_span};
+ghost use Rattle.wf_grid.specs.Levels.{IsPlaceIn, place_in};
+ghost use Rattle.wf_grid.specs.Following.{IsNext};
+
+use wf_model::{Domain, Field, Plan};
+
+/// How many points of its own a field level has from west to east and from south to north, and how many levels in z.
+#[derive(Clone, Copy, Debug, PartialEq, Eq)]
+pub struct Extents {
+    pub columns: u32,
+    pub rows: u32,
+    pub levels: u32,
+}
+
+/// A point of a level, by its numbers from 1.
+#[derive(Clone, Copy, Debug, PartialEq, Eq)]
+pub struct Here {
+    pub k: u32,
+    pub j: u32,
+    pub i: u32,
+}
+
+/// The domain of a number, from 1.
+pub fn domain(plan: &Plan, number: u32) -> &Domain
+    requires { IsDomain plan.now number }
+    ensures { result.now ≡ domain_of plan.now number }
+{
+    &plan.domains.as_slice()[number as usize - 1]
+}
+
+/// The field level of a number, from 0.
+pub fn level(plan: &Plan, field: u32) -> &Field
+    requires { IsLevel plan.now field }
+    ensures { result.now ≡ field_of plan.now field }
+{
+    &plan.fields.as_slice()[field as usize]
+}
+
+/// A field that is staggered has one point more, but in a periodic direction.
+fn points(end: u32, staggered: bool, periodic: bool) -> u32
+    ensures { result ≡ end - 1 + extra staggered periodic }
+{
+    let own = end.saturating_sub(1);
+    if staggered && !periodic { own + 1 } else { own }
+}
+
+/// The extents of a field level in a domain.
+pub fn extents_of(domain: &Domain, field: &Field) -> Extents
+    ensures columns { result.columns ≡ domain.now.ide - 1 + extra field.now.stag_x domain.now.periodic_x }
+    ensures rows { result.rows ≡ domain.now.jde - 1 + extra field.now.stag_y domain.now.periodic_y }
+    ensures levels { result.levels ≡ field.now.nz }
+{
+    Extents {
+        columns: points(domain.ide, field.stag_x, domain.periodic_x),
+        rows: points(domain.jde, field.stag_y, domain.periodic_y),
+        levels: field.nz,
+    }
+}
+
+/// The place of a point in the list of its level, from 0: k, then j, then i, with i fastest.
+pub fn place(extents: Extents, here: Here, count: usize) -> usize
+    requires inside { IsPlaceIn extents.levels extents.rows extents.columns here.k here.j here.i }
+    requires size { count ≡ extents.levels * (extents.rows * extents.columns) }
+    ensures value { result ≡ place_in extents.rows extents.columns here.k here.j here.i }
+    ensures bound { result < count }
+{
+    let row = (here.k as usize - 1) * extents.rows as usize + (here.j as usize - 1);
+    row * extents.columns as usize + (here.i as usize - 1)
+}
+
+/// The first point of a level.
+pub fn first() -> Here
+    ensures { result ≡ record { k = 1; j = 1; i = 1 } }
+{
+    Here { k: 1, j: 1, i: 1 }
+}
+
+/// The point that follows a point in the order of a list.
+pub fn following(extents: Extents, here: Here) -> Here
+    requires inside { IsPlaceIn extents.levels extents.rows extents.columns here.k here.j here.i }
+    requires room { extents.levels < 2 ^ 31 }
+    ensures { IsNext extents.rows extents.columns here result }
+{
+    if here.i < extents.columns {
+        Here {
+            i: here.i + 1,
+            ..here
+        }
+    } else if here.j < extents.rows {
+        Here {
+            j: here.j + 1,
+            i: 1,
+            ..here
+        }
+    } else {
+        Here {
+            k: here.k + 1,
+            j: 1,
+            i: 1,
+        }
+    }
+}
+
+/// The number of the point at a place: in a periodic direction places wrap.
+pub fn wrapped_place(periodic: bool, count: u32, from: u32, by: i32) -> u32
+    requires some { 1 ≤ count }
+    requires inside { IsTrue (periodic || in_span (record { low = pos 1; high = pos (count + 1) }) (pos from +ℤ by)) }
+    ensures value { result ≡ wrapped periodic count (pos from +ℤ by) }
+    ensures low { 1 ≤ result }
+    ensures high { result ≤ count }
+{
+    let place = i64::from(from) + i64::from(by);
+    if periodic {
+        (place - 1).rem_euclid(i64::from(count)) as u32 + 1
+    } else {
+        place as u32
+    }
+}
+
+/// Whether a point is at least the margin from both ends, which is 0 in a periodic direction.
+pub fn is_inside(periodic: bool, margin: u32, count: u32, x: u32) -> bool
+    ensures { result ≡ is_inside periodic margin count x }
+{
+    if periodic {
+        1 <= x && x <= count
+    } else {
+        margin < x && x <= count.saturating_sub(margin)
+    }
+}

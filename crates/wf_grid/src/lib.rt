@@ -1,0 +1,12 @@
+//! Whole domains, stepped point by point.
+//!
+//! What is stepped here knows no patch: it is the meaning of a run. Only one domain runs for now.
+#![tactic(auto)]
+
+mod extents;
+mod item;
+mod phase;
+mod surroundings;
+mod whole;
+
+pub use whole::Whole;
