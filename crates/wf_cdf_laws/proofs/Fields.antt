@@ -19,7 +19,7 @@ raw_again text bytes at rest s =
     ∙ ap (λ t. Ok (t, at + length text)) (ap (take (length text)) s.parts ∙ take_at text rest (length text) refl)
 
 -- numbers of four and of eight bytes
-four_big : (n : ℕ) → n < 2 ^ 32 → big_endian 0 (four_bytes n) ≡ n
+pub four_big : (n : ℕ) → n < 2 ^ 32 → big_endian 0 (four_bytes n) ≡ n
 four_big n h = omega arith
 
 pub number_again : (n : ℕ) → n < 2 ^ 32 → ReadsAgain (number 4) (four_bytes n) n

@@ -22,7 +22,7 @@ use Rattle.wf_cdf_laws.proofs.Lists.{list_again, dims_again, kind_again, atts_ag
 -- ---- variables
 
 -- what is true is the test's answer
-is_true : (b : Bool) → IsTrue b → b ≡ true
+pub is_true : (b : Bool) → IsTrue b → b ≡ true
 is_true true h = refl
 is_true false h = absurd cc
 

@@ -2,8 +2,19 @@
 #![tactic(auto)]
 
 ghost use Rattle.wf_cdf_laws.specs.ReadAgain.{HeadersAreReadAgain};
+ghost use Rattle.wf_cdf_laws.specs.SlabsAgain.{SlabsAreReadAgain, TextsAreReadAgain};
 
 /// The bytes of a sound header are read to the same header, whatever follows them.
 pub fn headers_are_read_again()
     ensures { HeadersAreReadAgain }
+{}
+
+/// Numbers that are written at the place of their slab are read again, whatever stands before and behind them.
+pub fn slabs_are_read_again()
+    ensures { SlabsAreReadAgain }
+{}
+
+/// A text that is written at the place of its slab is read again, whatever stands before and behind it.
+pub fn texts_are_read_again()
+    ensures { TextsAreReadAgain }
 {}
