@@ -8,6 +8,7 @@ mod place;
 mod size;
 mod slab;
 mod sound;
+mod stream_header;
 mod too_long;
 
 pub use header::write_header;
