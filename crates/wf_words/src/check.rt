@@ -1,0 +1,35 @@
+//! The words of the command `check`.
+
+ghost use Rattle.std.specs.Prelude.{◌≡◌, map};
+ghost use Rattle.std.specs.String.{string_bytes};
+ghost use Rattle.wf_model.specs.Reading.{Gives};
+ghost use Rattle.wf_words.specs.Check.{check_words, fault_of};
+ghost use Rattle.wf_words.specs.WordsOfCheck.{WordsOfCheck};
+
+use crate::command::define_text;
+use crate::defines::defines;
+use crate::error::WordsError;
+use std::alloc::Global;
+use wf_model::Name;
+
+/// The names that the words define, each with a value: `check [--define LIST]`, the command's name first.
+///
+/// LIST is `NAME=VALUE` pairs joined by commas, where both parts are 1 to 64 letters, digits and `_`. `--define=LIST` is
+/// the same, and a lone `--` may stand last. An option that is repeated, shortened or unknown, `--help` and any other word
+/// are none of this command.
+#[tactic(auto, unfolding(crate::specs::Check::check_words))]
+pub fn check_words(alloc: Global, words: &[String]) -> Result<Vec<(Name, Name)>, WordsError>
+    ensures { Gives (λ v. v.items) fault_of result (check_words (map string_bytes words.now)) }
+{
+    match define_text(alloc, words) {
+        Ok(None) => Ok(Vec::new(alloc)),
+        Ok(Some(list)) => defines(alloc, list.as_bytes()),
+        Err(error) => Err(error),
+    }
+}
+
+/// What some words after `check` define, and some that are none of this command.
+#[tactic(auto, using(crate::proofs::WordsOfCheck::words_of_check))]
+pub fn words_of_check()
+    ensures { WordsOfCheck }
+{}
