@@ -1,14 +1,14 @@
 //! The headers of the files that this project writes: what a stream of a domain holds.
 
-ghost use Rattle.std.specs.Prelude.{◌≡◌, ℕ, ◌+◌, ◌-◌, ◌*◌, ◌<◌, ◌≤◌, ◌^◌, ◌∷◌, All, IfOk, fold, length, map, position};
-ghost use Rattle.std.specs.List.{list_any, position_or_len};
+ghost use Rattle.std.specs.Prelude.{◌≡◌, ℕ, ◌+◌, ◌-◌, ◌*◌, ◌<◌, ◌≤◌, ◌^◌, ◌∷◌, ◌++◌, [], if◌then◌else◌, All, IfOk, fold, length, map, position};
+ghost use Rattle.std.specs.List.{list_any};
 ghost use Rattle.std.specs.Str.{bytes_eq};
-ghost use Rattle.wf_model.specs.Headers.{text_att, int_att, dim_name, dim, dim_x, dim_y, dim_z, dims_of_level, add_dim, dim_number, letters, level_atts, level_var, times_var, file_header};
+ghost use Rattle.wf_model.specs.Headers.{text_att, int_att, dim_name, dim, dim_x, dim_y, dim_z, dims_of_level, add_dim, letters, level_atts, times_var, file_header};
 ghost use Rattle.wf_model.specs.Plans.{domain_of, field_of};
 ghost use Rattle.wf_model.specs.Ranges.{IsRangedField};
 ghost use Rattle.wf_model.specs.Sound.{IsDomain, IsLevel};
 ghost use Rattle.wf_model.specs.Streams.{one_if, level_suffix, stream_levels, variable_name};
-ghost use Rattle.wf_cdf.specs.StreamLevels.{holds, dims_of_levels, global_atts};
+ghost use Rattle.wf_cdf.specs.StreamLevels.{holds, dims_of_levels, number_named, level_numbers, written_var, global_atts};
 ghost use Rattle.wf_model.specs.declared.header.Dim.{Dim};
 
 use std::alloc::{AllocError, Global};
@@ -204,19 +204,25 @@ fn is_in_stream(field: &Field, stream: u32) -> bool
     }
 }
 
+/// The levels with one more, if it is held.
+fn with_level(mut levels: Vec<usize>, level: usize, is_held: bool) -> Result<Vec<usize>, AllocError>
+    ensures { IfOk result (λ v. v.items ≡ levels.items ++ (if is_held then level ∷ [] else [])) }
+{
+    if is_held {
+        levels.push(level)?;
+    }
+    Ok(levels)
+}
+
 /// The levels that a stream holds, by number, in order.
 #[tactic(auto, using(crate::proofs::LevelLoops::levels_more), unfolding(wf_model::specs::Streams::stream_levels))]
 fn stream_levels(alloc: Global, plan: &Plan, stream: u32) -> Result<Vec<usize>, AllocError>
     requires { stream ≤ 10 }
     ensures levels { IfOk result (λ v. v.items ≡ stream_levels plan.now stream) }
-    ensures within { IfOk result (λ v. All (IsLevel plan.now) v.items) }
-    ensures few { IfOk result (λ v. length v.items ≤ length plan.now.fields) }
 {
     let mut levels = Vec::new(alloc);
     for level in 0..plan.fields.as_slice().len() {
-        if is_in_stream(field_of(plan, level), stream) {
-            levels.push(level)?;
-        }
+        levels = with_level(levels, level, is_in_stream(field_of(plan, level), stream))?;
     }
     Ok(levels)
 }
@@ -282,7 +288,7 @@ fn variable_name(alloc: Global, plan: &Plan, stream: u32, level: usize) -> Resul
 #[tactic(auto, using(crate::proofs::DimPlaces::found, crate::proofs::DimPlaces::not_found))]
 fn number_of(dims: &[Dim], name: &[u8]) -> u32
     requires { length dims.now < 2 ^ 32 }
-    ensures { result ≡ position_or_len (λ (y : Dim). bytes_eq y.name name.now) dims.now }
+    ensures { result ≡ number_named dims.now name.now }
 {
     match find_dim(dims, name) {
         Some(place) => place as u32,
@@ -291,31 +297,37 @@ fn number_of(dims: &[Dim], name: &[u8]) -> u32
 }
 
 /// The number of the dimension with this name, staggered or not.
-fn dim_number(
-    alloc: Global,
-    dims: &[Dim],
-    name: &[u8],
-    staggered: bool,
-) -> Result<u32, AllocError>
+fn dim_number(alloc: Global, dims: &[Dim], name: &[u8], staggered: bool) -> Result<u32, AllocError>
     requires { length dims.now < 2 ^ 32 }
-    ensures { IfOk result (λ n. (len : ℕ) → n ≡ dim_number dims.now (dim (dim_name name.now staggered) len)) }
+    ensures { IfOk result (λ n. n ≡ number_named dims.now (dim_name name.now staggered)) }
 {
     let name = dim_name(alloc, name, staggered)?;
     Ok(number_of(dims, name.as_slice()))
 }
 
-/// The numbers of a level's dimensions: Time, z where it has one, y and x.
-fn level_dims(alloc: Global, plan: &Plan, level: usize, dims: &[Dim]) -> Result<List<u32>, AllocError>
-    requires { IsLevel plan.now level × (length dims.now < 2 ^ 32) }
-    ensures { IfOk result (λ l. (d : ℕ) → l ≡ (level_var plan.now d 0 dims.now level).dims) }
+/// The number of Time, and of z where the level has one.
+fn first_numbers(alloc: Global, dims: &[Dim], field: &Field) -> Result<Vec<u32>, AllocError>
+    requires { length dims.now < 2 ^ 32 }
+    ensures { IfOk result (λ v. v.items ≡ 0 ∷ (if field.now.z then number_named dims.now (dim_name field.now.z_name field.now.stag_z) ∷ [] else [])) }
 {
-    let field = field_of(plan, level);
-    let mut numbers = vec![in alloc; 0]?;
-    if field.z {
-        numbers.push(dim_number(alloc, dims, field.z_name.as_slice(), field.stag_z)?)?;
+    if !field.z {
+        return Ok(vec![in alloc; 0]?);
     }
-    numbers.push(dim_number(alloc, dims, field.y_name.as_slice(), field.stag_y)?)?;
-    numbers.push(dim_number(alloc, dims, field.x_name.as_slice(), field.stag_x)?)?;
+    let z = dim_number(alloc, dims, field.z_name.as_slice(), field.stag_z)?;
+    Ok(vec![in alloc; 0, z]?)
+}
+
+/// The numbers of a level's dimensions: Time, z where it has one, y and x.
+#[tactic(auto, using(crate::proofs::LevelLoops::two_more))]
+fn level_numbers(alloc: Global, dims: &[Dim], field: &Field) -> Result<List<u32>, AllocError>
+    requires { length dims.now < 2 ^ 32 }
+    ensures { IfOk result (λ l. l ≡ level_numbers dims.now field.now) }
+{
+    let mut numbers = first_numbers(alloc, dims, field)?;
+    let y = dim_number(alloc, dims, field.y_name.as_slice(), field.stag_y)?;
+    let x = dim_number(alloc, dims, field.x_name.as_slice(), field.stag_x)?;
+    numbers.push(y)?;
+    numbers.push(x)?;
     Ok(List::from_vec(numbers))
 }
 
@@ -328,11 +340,11 @@ fn level_var(
     dims: &[Dim],
 ) -> Result<Var, AllocError>
     requires { IsLevel plan.now level × IsRangedField (field_of plan.now level) × (length dims.now < 2 ^ 32) }
-    ensures { IfOk result (λ v. (d : ℕ) → v ≡ level_var plan.now d stream dims.now level) }
+    ensures { IfOk result (λ v. v ≡ written_var plan.now stream dims.now level) }
 {
     Ok(Var {
         name: variable_name(alloc, plan, stream, level)?,
-        dims: level_dims(alloc, plan, level, dims)?,
+        dims: level_numbers(alloc, dims, field_of(plan, level))?,
         atts: level_atts(alloc, field_of(plan, level))?,
         kind: INT,
         vsize: 0,
@@ -355,6 +367,7 @@ fn times_var(alloc: Global) -> Result<Var, AllocError>
 }
 
 /// `Times`, and then the levels in order.
+#[tactic(auto, using(crate::proofs::LevelLoops::ranged))]
 fn vars_of(
     alloc: Global,
     plan: &Plan,
@@ -365,7 +378,7 @@ fn vars_of(
     requires levels { All (IsLevel plan.now) levels.now }
     requires fields { All IsRangedField plan.now.fields }
     requires dims { length dims.now < 2 ^ 32 }
-    ensures { IfOk result (λ l. (d : ℕ) → l ≡ times_var ∷ map (level_var plan.now d stream dims.now) levels.now) }
+    ensures { IfOk result (λ l. l ≡ times_var ∷ map (written_var plan.now stream dims.now) levels.now) }
 {
     let mut vars = vec![in alloc; times_var(alloc)?]?;
     for level in levels {
@@ -403,7 +416,7 @@ fn global_atts(
 /// their first use, of a variable x, y, z; variables are `Times` and then the levels, by Time, z, y, x. `start_text` is
 /// the domain's start, and `steps`, which restart files hold, how many steps it has taken. Names, attributes and their
 /// order are this project's own; dimensions and attributes are written as WRF writes them.
-#[tactic(auto, unfolding(wf_model::specs::Headers::file_header, wf_model::specs::Headers::dims_of, crate::specs::StreamLevels::dims_of_levels))]
+#[tactic(auto, using(crate::proofs::LevelLoops::levels_few, crate::proofs::LevelLoops::levels_within), unfolding(wf_model::specs::Headers::file_header, wf_model::specs::Headers::dims_of, crate::specs::StreamLevels::dims_of_levels))]
 pub fn file_header(
     alloc: Global,
     plan: &Plan,
