@@ -3,3 +3,5 @@ pub mod Sizes
 pub mod Lengths
 pub mod Placed
 pub mod Limits
+pub mod DimPlaces
+pub mod LevelLoops
