@@ -10,3 +10,6 @@ mod surroundings;
 mod whole;
 
 pub use whole::Whole;
+
+#[cfg(test)]
+mod tests;
