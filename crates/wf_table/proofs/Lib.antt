@@ -1,6 +1,7 @@
 pub mod Words
 pub mod Letters
 pub mod TokenScan
+pub mod Places
 pub mod JoinedWords
 pub mod Trees
 pub mod Chains

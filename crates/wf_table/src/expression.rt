@@ -202,7 +202,7 @@ fn arguments<'a>(
 ) -> Result<(Vec<Tree>, Place<'a>), LineError>
     requires room { room < 64 }
     requires token { 0 < length at.tokens.now }
-    ensures found { Gives (λ x. (map tree_of x.0.items, at_of x.1)) kind_of result (arguments (expr_at names.now room) (length at.entry.tokens.now) (at_of at.entry)) }
+    ensures found { Gives (λ x. (map tree_of x.0.items, at_of x.1)) kind_of result (arguments (expr_at names.now room) (length (at_of at.entry).tokens) (at_of at.entry)) }
     ensures depth { IfOk result (λ x. AllBelow (room + 1) x.0.items) }
     ensures length { IfOk result (λ x. length x.1.tokens.now ≤ length at.entry.tokens.now) }
 {

@@ -12,16 +12,25 @@ ghost use Rattle.wf_table.specs.Faults.{kind_of};
 ghost use Rattle.wf_table.specs.Place.{at_of};
 
 use crate::error::LineError;
-use wf_model::{Name, TableKind, Token};
+use wf_model::{Name, TableKind};
 use wf_text::digits_up_to;
 
 /// So many nodes an expression may have.
 const MOST_NODES: u32 = 1024;
 
+/// A token, whose text is a part of its line's, and the column of its first byte, from 1.
+///
+/// The end of the line is a token without text.
+#[derive(Clone, Copy)]
+pub(crate) struct Token<'a> {
+    pub text: &'a [u8],
+    pub column: u32,
+}
+
 /// The tokens that are left, and how many nodes the expression has so far.
 #[derive(Clone, Copy)]
 pub(crate) struct Place<'a> {
-    pub tokens: &'a [Token],
+    pub tokens: &'a [Token<'a>],
     pub nodes: u32,
 }
 
@@ -56,13 +65,13 @@ impl<'a> Place<'a> {
     {
         match self.tokens {
             [] => b"",
-            [token, ..] => token.text.as_slice(),
+            [token, ..] => token.text,
         }
     }
 
     /// The next token's column.
     pub(crate) fn column(self) -> u32
-        ensures { result ≡ (first_token self.entry.tokens.now).column }
+        ensures { result ≡ (first_token (at_of self.entry).tokens).column }
     {
         match self.tokens {
             [] => 0,
@@ -92,7 +101,7 @@ impl<'a> Place<'a> {
 
     /// The refusal of the next token, which can't stand there.
     pub(crate) fn refusal(self) -> LineError
-        ensures { kind_of result ≡ Some (Syntax (first_token self.entry.tokens.now).column) }
+        ensures { kind_of result ≡ Some (Syntax (first_token (at_of self.entry).tokens).column) }
     {
         LineError::Kind(TableKind::Syntax {
             column: self.column(),

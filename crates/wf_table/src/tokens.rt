@@ -1,14 +1,16 @@
 //! The tokens of a line.
 
-ghost use Rattle.std.specs.Prelude.{◌≡◌, ◌≤◌, ◌+◌, ◌++◌, IfOk, OnOk, length};
+ghost use Rattle.std.specs.Prelude.{◌≡◌, ◌≤◌, ◌+◌, ◌++◌, IfOk, OnOk, length, map};
 ghost use Rattle.std.specs.List.{prefix_len};
 ghost use Rattle.wf_model.specs.Letters.{is_name_byte};
 ghost use Rattle.wf_model.specs.Lines.{begins_with};
 ghost use Rattle.wf_model.specs.Tokens.{joined_text, token, token_rest, tokens_of};
 ghost use Rattle.wf_table.specs.Joined.{behind_blank};
+ghost use Rattle.wf_table.specs.Place.{token_of};
 
+use crate::place::Token;
 use std::alloc::{AllocError, Global};
-use wf_model::{Bytes, Line, Token};
+use wf_model::Line;
 
 /// Adds a word, behind a blank if it isn't the first.
 fn push_word(text: &mut Vec<u8>, place: usize, word: &[u8]) -> Result<(), AllocError>
@@ -73,18 +75,17 @@ fn token_rest(first: u8, after: &[u8]) -> usize
 }
 
 /// The token with this text, whose first byte has this place in its line, from 0.
-fn token(alloc: Global, text: &[u8], place: usize) -> Result<Token, AllocError>
-    ensures { IfOk result (λ t. t ≡ token text.now (place + 1)) }
+fn token<'a>(text: &'a [u8], place: usize) -> Result<Token<'a>, AllocError>
+    ensures { IfOk result (λ t. token_of t ≡ token text.now (place + 1)) }
 {
     let column = u32::try_from(place).map_err(|_| AllocError)?;
     let column = column.checked_add(1).ok_or(AllocError)?;
-    let text = Bytes::from_vec(Vec::from_slice(alloc, text)?);
     Ok(Token { text, column })
 }
 
 /// The tokens of a line's text, and its end.
-pub(crate) fn tokens_of(alloc: Global, text: &[u8]) -> Result<Vec<Token>, AllocError>
-    ensures { IfOk result (λ v. v.items ≡ tokens_of text.now) }
+pub(crate) fn tokens_of<'a>(alloc: Global, text: &'a [u8]) -> Result<Vec<Token<'a>>, AllocError>
+    ensures { IfOk result (λ v. map token_of v.items ≡ tokens_of text.now) }
 {
     let mut tokens = Vec::new(alloc);
     let mut at = 0;
@@ -97,12 +98,12 @@ pub(crate) fn tokens_of(alloc: Global, text: &[u8]) -> Result<Vec<Token>, AllocE
             let (_, after) = text.split_at(at + 1);
             let size = token_rest(first, after) + 1;
             let (word, _) = from.split_at(size);
-            let token = token(alloc, word, at)?;
+            let token = token(word, at)?;
             tokens.push(token)?;
             at += size;
         }
     }
-    let end = token(alloc, b"", at)?;
+    let end = token(b"", at)?;
     tokens.push(end)?;
     Ok(tokens)
 }

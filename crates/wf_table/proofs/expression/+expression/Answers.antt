@@ -10,6 +10,7 @@ use Rattle.wf_table.specs.Expressions.{chain, expr_at, factor_at, product_turn, 
 use Rattle.wf_table.proofs.Chains.{Found, begins, goes_on, stops, fails}
 use Rattle.wf_table.proofs.ArgumentLists as list
 use Rattle.wf_table.proofs.Factors.{leaf_factor}
+use Rattle.wf_table.proofs.Places.{fewer_left, no_more_left, some_left}
 use Rattle.wf_table.proofs.Trees.{below_push, call_within, seen_push}
 use Rattle.wf_table.specs.declared.start.Start.TheVariants as start
 use Rattle.wf_model.specs.declared.expr.Expr.{roll-Expr}
@@ -30,8 +31,8 @@ term-loop-sign-init t c =
     let names = c.args.names.now in
     let room = c.args.room in
     record {
-      chain = begins (product_turns (factor_at names (room - 1)) room) _ _ _ (length c.args.at.tokens.now) (omega (arith, c.in_ok-left.ensures.within.1))
-          (sym (ap (λ (f : Found). f >>= λ first. chain (product_turns (factor_at names (room - 1)) room) (length c.args.at.tokens.now) first.0 first.1) c.in_ok-left.ensures.found));
+      chain = begins (product_turns (factor_at names (room - 1)) room) _ _ _ (length (at_of c.args.at).tokens) (no_more_left c.in_ok-left.rest c.args.at c.in_ok-left.ensures.within.1)
+          (sym (ap (λ (f : Found). f >>= λ first. chain (product_turns (factor_at names (room - 1)) room) (length (at_of c.args.at).tokens) first.0 first.1) c.in_ok-left.ensures.found));
       depth = c.in_ok-left.ensures.within.0;
       shorter = c.in_ok-left.ensures.within.1;
     }
@@ -43,7 +44,7 @@ term-returns-in_err-tree-clause-found t c =
     let at = at_of c.loop-sign.rest in
     let p = err_from_is_err_and c.from_residual-in_err-tree.result c.from_residual-in_err-tree.ensures.1 in
     rw (p.1, p.2) (fails (product_turns right c.args.room) left at _ (kind_of c.in_err-tree.field-0.0) (product_turn right c.args.room c.in-Some.sign left at) c.loop-sign.invariant.chain
-    (ap (option_map (λ op. product_turn right c.args.room op left at)) (sym c.in-Some.ensures.operator)) c.in-Some.ensures.token c.in_err-tree.ensures.found)
+    (ap (option_map (λ op. product_turn right c.args.room op left at)) (sym c.in-Some.ensures.operator)) (some_left c.loop-sign.rest c.in-Some.ensures.token) c.in_err-tree.ensures.found)
 
 pub term-loop-sign-preserved : goal.term-loop-sign-preserved
 term-loop-sign-preserved t c =
@@ -52,7 +53,7 @@ term-loop-sign-preserved t c =
     let at = at_of c.loop-sign.rest in
     record {
       chain = goes_on (product_turns right c.args.room) left at _ (product_turn right c.args.room c.in-Some.sign left at) (tree_of c.in_ok-tree.tree) (at_of c.in_ok-tree.end) c.loop-sign.invariant.chain
-          (ap (option_map (λ op. product_turn right c.args.room op left at)) (sym c.in-Some.ensures.operator)) c.in_ok-tree.ensures.found c.in_ok-tree.ensures.within.1;
+          (ap (option_map (λ op. product_turn right c.args.room op left at)) (sym c.in-Some.ensures.operator)) c.in_ok-tree.ensures.found (fewer_left c.in_ok-tree.end c.loop-sign.rest c.in_ok-tree.ensures.within.1);
       depth = c.in_ok-tree.ensures.within.0;
       shorter = omega (arith, c.in_ok-tree.ensures.within.1, c.loop-sign.invariant.shorter);
     }
@@ -76,8 +77,8 @@ expression-loop-sign-init t c =
     let names = c.args.names.now in
     let room = c.args.room in
     record {
-      chain = begins (sum_turns (term_at names (room - 1)) room) _ _ _ (length c.args.at.tokens.now) (omega (arith, c.in_ok-left.ensures.within.1))
-          (sym (ap (λ (f : Found). f >>= λ first. chain (sum_turns (term_at names (room - 1)) room) (length c.args.at.tokens.now) first.0 first.1) c.in_ok-left.ensures.found));
+      chain = begins (sum_turns (term_at names (room - 1)) room) _ _ _ (length (at_of c.args.at).tokens) (no_more_left c.in_ok-left.rest c.args.at c.in_ok-left.ensures.within.1)
+          (sym (ap (λ (f : Found). f >>= λ first. chain (sum_turns (term_at names (room - 1)) room) (length (at_of c.args.at).tokens) first.0 first.1) c.in_ok-left.ensures.found));
       depth = c.in_ok-left.ensures.within.0;
       shorter = c.in_ok-left.ensures.within.1;
     }
@@ -89,7 +90,7 @@ expression-returns-in_err-tree-clause-found t c =
     let at = at_of c.loop-sign.rest in
     let p = err_from_is_err_and c.from_residual-in_err-tree.result c.from_residual-in_err-tree.ensures.1 in
     rw (p.1, p.2) (fails (sum_turns right c.args.room) left at _ (kind_of c.in_err-tree.field-0.0) (sum_turn right c.args.room c.in-Some.sign left at) c.loop-sign.invariant.chain
-    (ap (option_map (λ op. sum_turn right c.args.room op left at)) (sym c.in-Some.ensures.operator)) c.in-Some.ensures.token c.in_err-tree.ensures.found)
+    (ap (option_map (λ op. sum_turn right c.args.room op left at)) (sym c.in-Some.ensures.operator)) (some_left c.loop-sign.rest c.in-Some.ensures.token) c.in_err-tree.ensures.found)
 
 pub expression-loop-sign-preserved : goal.expression-loop-sign-preserved
 expression-loop-sign-preserved t c =
@@ -98,7 +99,7 @@ expression-loop-sign-preserved t c =
     let at = at_of c.loop-sign.rest in
     record {
       chain = goes_on (sum_turns right c.args.room) left at _ (sum_turn right c.args.room c.in-Some.sign left at) (tree_of c.in_ok-tree.tree) (at_of c.in_ok-tree.end) c.loop-sign.invariant.chain
-          (ap (option_map (λ op. sum_turn right c.args.room op left at)) (sym c.in-Some.ensures.operator)) c.in_ok-tree.ensures.found c.in_ok-tree.ensures.within.1;
+          (ap (option_map (λ op. sum_turn right c.args.room op left at)) (sym c.in-Some.ensures.operator)) c.in_ok-tree.ensures.found (fewer_left c.in_ok-tree.end c.loop-sign.rest c.in_ok-tree.ensures.within.1);
       depth = c.in_ok-tree.ensures.within.0;
       shorter = omega (arith, c.in_ok-tree.ensures.within.1, c.loop-sign.invariant.shorter);
     }
@@ -128,11 +129,11 @@ arguments-returns-then-not-is_next-clause-depth t c =
 pub arguments-loop-trees-preserved : goal.arguments-loop-trees-preserved
 arguments-loop-trees-preserved t c =
     let inside = expr_at c.args.names.now c.args.room in
-    let total = arguments inside (length c.args.at.tokens.now) (at_of c.args.at) in
+    let total = arguments inside (length (at_of c.args.at).tokens) (at_of c.args.at) in
     let comma = sym c.is_next.ensures.test ∙ c.if-not-is_next.false in
     let some : 0 < length c.in_ok-tree.end.tokens.now = c.is_next.ensures.some c.if-not-is_next.false (omega arith) in
     let whole : list.IsRest inside (map tree_of c.loop-trees.trees.items ++ tree_of c.in_ok-tree.tree ∷ []) (past (at_of c.in_ok-tree.end)) total =
-    list.goes_on inside (map tree_of c.loop-trees.trees.items) (at_of c.loop-trees.at) total (tree_of c.in_ok-tree.tree) (at_of c.in_ok-tree.end) c.loop-trees.invariant.rest c.in_ok-tree.ensures.found comma c.in_ok-tree.ensures.within.1 some in
+    list.goes_on inside (map tree_of c.loop-trees.trees.items) (at_of c.loop-trees.at) total (tree_of c.in_ok-tree.tree) (at_of c.in_ok-tree.end) c.loop-trees.invariant.rest c.in_ok-tree.ensures.found comma (fewer_left c.in_ok-tree.end c.loop-trees.at c.in_ok-tree.ensures.within.1) (some_left c.in_ok-tree.end some) in
     let trees : list.IsRest inside (map tree_of c.push.new.self.items) (past (at_of c.in_ok-tree.end)) total =
     subst (λ (ts : List Tree). list.IsRest inside ts (past (at_of c.in_ok-tree.end)) total) (sym (seen_push c.loop-trees.trees.items c.push.new.self.items c.in_ok-tree.tree c.in_ok-push.ensures.items)) whole in
     record {

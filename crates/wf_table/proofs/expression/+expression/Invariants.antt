@@ -73,7 +73,7 @@ decreases-expression-loop-sign l = length l.rest.tokens.now
 
 abbrev pub invariant-arguments-loop-trees : goal.invariant-arguments-loop-trees
 invariant-arguments-loop-trees l = record {
-  rest : list.IsRest (expr_at l.names l.room) (map tree_of l.trees.items) (at_of l.at) (arguments (expr_at l.names l.room) (length l.fn.at.tokens.now) (at_of l.fn.at));
+  rest : list.IsRest (expr_at l.names l.room) (map tree_of l.trees.items) (at_of l.at) (arguments (expr_at l.names l.room) (length (at_of l.fn.at).tokens) (at_of l.fn.at));
   depth : AllBelow (l.room + 1) l.trees.items;
   shorter : length l.at.tokens.now ≤ length l.fn.at.tokens.now;
 }
