@@ -1,0 +1,24 @@
+//! What a Registry and a namelist say together: the values of each name and the active fields, and the names that a
+//! stencil table may use.
+#![tactic(auto)]
+
+mod active;
+mod bind;
+mod built_ins;
+mod copies;
+mod error;
+mod faults;
+mod given;
+mod names;
+mod parts;
+mod rconfig;
+mod rule;
+mod values;
+mod words;
+
+pub use bind::bind;
+pub use error::ConfigError;
+pub use names::names;
+
+#[cfg(test)]
+mod tests;
