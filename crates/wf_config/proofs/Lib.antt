@@ -1,2 +1,6 @@
 pub mod Finds
+pub mod FirstFaults
+pub mod LookUps
 pub mod Loops
+pub mod Actives
+pub mod Judgements

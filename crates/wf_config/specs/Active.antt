@@ -1,5 +1,5 @@
 -- The symbols that packages list, one by one.
-use Rattle.std.specs.Prelude.{ℕ, ℤ, Bool, false, true, ◌==◌, ◌||◌, List, [], length, filter, flat_map, map}
+use Rattle.std.specs.Prelude.{ℕ, ℤ, Bool, false, not, ◌&&◌, ◌||◌, List, [], flat_map, map}
 use Rattle.std.specs.List.{list_any}
 use Rattle.std.specs.Str.{bytes_eq}
 use Rattle.wf_model.specs.declared.registry.Entry.{Entry}
@@ -35,7 +35,7 @@ is_listing symbol l = bytes_eq l.0 symbol
 
 -- none of these lists the symbol, or one that does holds
 abbrev pub active_in : List Listed → Text → Bool
-active_in ls symbol = let mine = filter (is_listing symbol) ls in (length mine == 0) || list_any (λ l. l.1) mine
+active_in ls symbol = not (list_any (is_listing symbol) ls) || list_any (λ l. is_listing symbol l && l.1) ls
 
 abbrev pub is_active_in : List Listed → Entry → Bool
 is_active_in ls (entry.State kind symbol dims levels stagger io dname description units) = active_in ls symbol

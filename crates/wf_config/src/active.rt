@@ -1,7 +1,8 @@
 //! The active fields, and the other entries that a config has.
 
-ghost use Rattle.std.specs.Prelude.{◌≡◌, ◌++◌, IfOk, OnOk, codes, filter, flat_map, map};
-ghost use Rattle.wf_config.specs.Active.{active_in, group_listings, holds, is_active_in, is_of_sort, listings, pair_of};
+ghost use Rattle.std.specs.Prelude.{◌≡◌, ◌++◌, ◌&&◌, ◌||◌, IfOk, OnOk, not, filter, flat_map, map};
+ghost use Rattle.std.specs.List.{list_any};
+ghost use Rattle.wf_config.specs.Active.{active_in, group_listings, holds, is_active_in, is_listing, is_of_sort, listings, pair_of};
 
 use crate::copies::copy_entry;
 use crate::given::first_int;
@@ -49,11 +50,11 @@ fn add_group(
 /// Adds the symbols that an entry lists.
 fn add_listings(
     alloc: Global,
-    listings: &mut Vec<Listing>,
+    made: &mut Vec<Listing>,
     values: &[NameValues],
     entry: &Entry,
 ) -> Result<(), AllocError>
-    ensures { OnOk result (map pair_of listings.new.items ≡ map pair_of listings.old.items ++ listings values.now entry.now) }
+    ensures { OnOk result (map pair_of made.new.items ≡ map pair_of made.old.items ++ listings values.now entry.now) }
 {
     let Entry::Package {
         symbol,
@@ -67,7 +68,7 @@ fn add_listings(
     let holds = package_holds(values, symbol.as_slice(), *value);
     let groups = parts(alloc, list.as_slice(), b';')?;
     for group in groups.as_slice() {
-        add_group(alloc, listings, group, holds)?;
+        add_group(alloc, made, group, holds)?;
     }
     Ok(())
 }
@@ -80,27 +81,40 @@ pub(crate) fn listings(
 ) -> Result<Vec<Listing>, AllocError>
     ensures { IfOk result (λ v. map pair_of v.items ≡ flat_map (listings values.now) entries.now) }
 {
-    let mut listings = Vec::new(alloc);
+    let mut made = Vec::new(alloc);
     for entry in entries {
-        add_listings(alloc, &mut listings, values, entry)?;
+        add_listings(alloc, &mut made, values, entry)?;
     }
-    Ok(listings)
+    Ok(made)
+}
+
+fn is_listed(listings: &[Listing], symbol: &[u8]) -> bool
+    ensures { result ≡ list_any (λ l. is_listing symbol.now (pair_of l)) listings.now }
+{
+    listings
+        .iter()
+        .any(|listing| listing.symbol.as_slice() == symbol)
+}
+
+fn is_held(listings: &[Listing], symbol: &[u8]) -> bool
+    ensures { result ≡ list_any (λ l. is_listing symbol.now (pair_of l) && (pair_of l).1) listings.now }
+{
+    listings
+        .iter()
+        .any(|listing| listing.symbol.as_slice() == symbol && listing.holds)
+}
+
+fn is_free_or_held(listings: &[Listing], symbol: &[u8]) -> bool
+    ensures { result ≡ (not (list_any (λ l. is_listing symbol.now (pair_of l)) listings.now) || list_any (λ l. is_listing symbol.now (pair_of l) && (pair_of l).1) listings.now) }
+{
+    !is_listed(listings, symbol) || is_held(listings, symbol)
 }
 
 /// Whether no package lists the symbol, or one that lists it holds.
 fn is_active_symbol(listings: &[Listing], symbol: &[u8]) -> bool
     ensures { result ≡ active_in (map pair_of listings.now) symbol.now }
 {
-    let mut is_listed = false;
-    for listing in listings {
-        if listing.symbol.as_slice() == symbol {
-            if listing.holds {
-                return true;
-            }
-            is_listed = true;
-        }
-    }
-    !is_listed
+    is_free_or_held(listings, symbol)
 }
 
 /// Whether the entry is an active field.

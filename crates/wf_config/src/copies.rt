@@ -1,6 +1,7 @@
 //! Copies of names, values and entries.
 
 ghost use Rattle.std.specs.Prelude.{◌≡◌, ◌++◌, IfOk, OnOk};
+ghost use Rattle.std.specs.Option.{option_to_list};
 
 use std::alloc::{AllocError, Global};
 use wf_model::{Bytes, Entry, Name, Value};
@@ -37,6 +38,16 @@ pub(crate) fn copy_values(alloc: Global, values: &[Value]) -> Result<Vec<Value>,
         copies.push(copy_value(alloc, value)?)?;
     }
     Ok(copies)
+}
+
+/// Adds an item, if there is one.
+pub(crate) fn push_some<T: Drop>(items: &mut Vec<T>, item: Option<T>) -> Result<(), AllocError>
+    ensures { OnOk result (items.new.items ≡ items.old.items ++ option_to_list item) }
+{
+    if let Some(item) = item {
+        items.push(item)?;
+    }
+    Ok(())
 }
 
 pub(crate) fn copy_entry(alloc: Global, entry: &Entry) -> Result<Entry, AllocError>

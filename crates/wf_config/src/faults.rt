@@ -21,20 +21,26 @@ type Found = Result<Option<ConfigFault>, AllocError>;
 
 // ---- declarations
 
-/// Whether a rule of the same name has another group or type.
-fn is_contradicted(built_ins: &[Rule], rule: &Rule) -> bool
-    ensures { result ≡ list_any (λ b. contradicts (rule_of rule.now) (rule_of b)) built_ins.now }
+fn contradiction(table: &[Rule], rule: &Rule) -> bool
+    ensures { result ≡ list_any (λ b. contradicts (rule_of rule.now) (rule_of b)) table.now }
 {
-    built_ins.iter().any(|b| {
+    table.iter().any(|b| {
         b.name.as_slice() == rule.name.as_slice()
             && !(b.group.as_slice() == rule.group.as_slice() && b.kind.is_same(rule.kind))
     })
 }
 
-fn wrong_rule(alloc: Global, built_ins: &[Rule], rule: &Rule) -> Found
-    ensures { IfOk result (λ f. f ≡ wrong_rule_in (map rule_of built_ins.now) (rule_of rule.now)) }
+/// Whether a rule of the same name has another group or type.
+fn is_contradicted(table: &[Rule], rule: &Rule) -> bool
+    ensures { result ≡ list_any (contradicts (rule_of rule.now)) (map rule_of table.now) }
 {
-    if !is_contradicted(built_ins, rule) {
+    contradiction(table, rule)
+}
+
+fn wrong_rule(alloc: Global, table: &[Rule], rule: &Rule) -> Found
+    ensures { IfOk result (λ f. f ≡ wrong_rule_in (map rule_of table.now) (rule_of rule.now)) }
+{
+    if !is_contradicted(table, rule) {
         return Ok(None);
     }
     let name = copy_bytes(alloc, rule.name.as_slice())?;
@@ -42,11 +48,11 @@ fn wrong_rule(alloc: Global, built_ins: &[Rule], rule: &Rule) -> Found
 }
 
 /// The first built-in name that the Registry declares with another group or type.
-pub(crate) fn declarations_fault(alloc: Global, built_ins: &[Rule], declared: &[Rule]) -> Found
-    ensures { IfOk result (λ f. f ≡ first_fault (map (λ r. wrong_rule_in (map rule_of built_ins.now) (rule_of r)) declared.now)) }
+pub(crate) fn declarations_fault(alloc: Global, table: &[Rule], declared: &[Rule]) -> Found
+    ensures { IfOk result (λ f. f ≡ first_fault (map (λ r. wrong_rule_in (map rule_of table.now) (rule_of r)) declared.now)) }
 {
     for rule in declared {
-        let fault = wrong_rule(alloc, built_ins, rule)?;
+        let fault = wrong_rule(alloc, table, rule)?;
         if fault.is_some() {
             return Ok(fault);
         }
@@ -151,14 +157,29 @@ fn known_fault(alloc: Global, domains: i128, item: &Item, rule: &Rule) -> Found
     range_fault(alloc, domains, rule, values)
 }
 
+/// What is wrong with an item that is held to this rule, or to none.
+fn rule_fault(alloc: Global, domains: i128, item: &Item, rule: Option<&Rule>) -> Found
+    ensures { IfOk result (λ f. f ≡ rule_fault domains item.now (option_map rule_of (option_copied rule.entry))) }
+{
+    match rule {
+        Some(rule) => {
+            let fault = known_fault(alloc, domains, item, rule)?;
+            Ok(fault)
+        }
+        None => unknown(alloc, item.1.as_slice()),
+    }
+}
+
 /// What is wrong with an item.
 fn item_fault(alloc: Global, rules: &[Rule], domains: i128, item: &Item) -> Found
     ensures { IfOk result (λ f. f ≡ item_fault (map rule_of rules.now) domains item.now) }
 {
-    match rule_named(rules, item.1.as_slice()) {
-        Some(rule) => known_fault(alloc, domains, item, rule),
-        None => unknown(alloc, item.1.as_slice()),
-    }
+    rule_fault(
+        alloc,
+        domains,
+        item,
+        rule_named(rules, item.1.as_slice()),
+    )
 }
 
 /// The first fault of an item.
@@ -187,12 +208,12 @@ fn fault_of_default(alloc: Global, rule: &Rule) -> Found
 
 /// What is wrong with the value of a domain that is given none, where its name has these values. It is the same for
 /// each domain.
-fn missing_fault(alloc: Global, built_ins: &[Rule], rule: &Rule, given: &[Value]) -> Found
-    requires { map rule_of built_ins.now ≡ built_ins }
+fn missing_fault(alloc: Global, table: &[Rule], rule: &Rule, given: &[Value]) -> Found
+    requires { map rule_of table.now ≡ built_ins }
     ensures { IfOk result (λ f. (d : ℕ) → f ≡ out_of_range (rule_of rule.now) (missing_value (rule_of rule.now) given.now d)) }
 {
     match given {
-        [first, ..] if rule.each && is_start_name(built_ins, rule.name.as_slice()) => {
+        [first, ..] if rule.each && is_start_name(table, rule.name.as_slice()) => {
             out_of_range(alloc, rule, first)
         }
         _ => fault_of_default(alloc, rule),
@@ -202,34 +223,35 @@ fn missing_fault(alloc: Global, built_ins: &[Rule], rule: &Rule, given: &[Value]
 /// A default that some domain has and may not have.
 fn default_fault(
     alloc: Global,
-    built_ins: &[Rule],
+    table: &[Rule],
     domains: u128,
     items: &[&Item],
     rule: &Rule,
 ) -> Found
-    requires { map rule_of built_ins.now ≡ built_ins }
+    requires { map rule_of table.now ≡ built_ins }
     ensures { IfOk result (λ f. f ≡ default_fault domains (map (λ i. i.now) items.now) (rule_of rule.now)) }
 {
     let given = given(items, rule.group.as_slice(), rule.name.as_slice());
     if wanted(domains, rule) <= given.len() as u128 {
         return Ok(None);
     }
-    missing_fault(alloc, built_ins, rule, given)
+    let fault = missing_fault(alloc, table, rule, given)?;
+    Ok(fault)
 }
 
 /// The first default that some domain has and may not have.
 pub(crate) fn defaults_fault(
     alloc: Global,
-    built_ins: &[Rule],
+    table: &[Rule],
     domains: u128,
     items: &[&Item],
     rules: &[Rule],
 ) -> Found
-    requires { map rule_of built_ins.now ≡ built_ins }
+    requires { map rule_of table.now ≡ built_ins }
     ensures { IfOk result (λ f. f ≡ first_fault (map (λ r. default_fault domains (map (λ i. i.now) items.now) (rule_of r)) rules.now)) }
 {
     for rule in rules {
-        let fault = default_fault(alloc, built_ins, domains, items, rule)?;
+        let fault = default_fault(alloc, table, domains, items, rule)?;
         if fault.is_some() {
             return Ok(fault);
         }

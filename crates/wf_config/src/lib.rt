@@ -3,22 +3,22 @@
 #![tactic(auto)]
 
 mod active;
-mod bind;
+mod binding;
 mod built_ins;
 mod copies;
 mod error;
 mod faults;
 mod given;
-mod names;
+mod table_names;
 mod parts;
 mod rconfig;
 mod rule;
 mod values;
 mod words;
 
-pub use bind::bind;
+pub use binding::bind;
 pub use error::ConfigError;
-pub use names::names;
+pub use table_names::names;
 
 #[cfg(test)]
 mod tests;

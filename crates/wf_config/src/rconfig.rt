@@ -1,15 +1,15 @@
 //! The rules of the names that the Registry declares.
 
-ghost use Rattle.std.specs.Prelude.{◌≡◌, ◌++◌, IfOk, Some, map, if◌then◌else◌};
+ghost use Rattle.std.specs.Prelude.{◌≡◌, ◌++◌, IfOk, Some, is_some, map, not, if◌then◌else◌};
 ghost use Rattle.std.specs.Option.{option_copied, option_map};
 ghost use Rattle.wf_model.specs.declared.registry.Entry.TheVariants.{Rconfig};
 ghost use Rattle.wf_model.specs.BuiltIns.{a_character, a_real, most_values};
 ghost use Rattle.wf_model.specs.Letters.{digits_value, is_digits};
 ghost use Rattle.wf_model.specs.ValueForms.{is_whole};
-ghost use Rattle.wf_model.specs.Config.{default_of, group_of, rconfig_rule, registry_rules, type_of, with_default};
+ghost use Rattle.wf_model.specs.Config.{default_of, group_of, rconfig_rule, registry_rules, rule_named, type_of, with_default};
 ghost use Rattle.wf_config.specs.Rules.{default_in, others, rule_of, type_of_kind, whole_default, with_defaults};
 
-use crate::copies::{copy_bytes, copy_name, copy_value};
+use crate::copies::{copy_bytes, copy_name, copy_value, push_some};
 use crate::rule::{DefaultValue, Range, Rule, ValueKind, is_named, rule_named};
 use std::alloc::{AllocError, Global};
 use wf_model::{Bytes, Entry, Name, Registry, Value};
@@ -164,9 +164,7 @@ pub(crate) fn registry_rules(alloc: Global, registry: &Registry) -> Result<Vec<R
 {
     let mut rules = Vec::new(alloc);
     for entry in registry.entries.as_slice() {
-        if let Some(rule) = rconfig_rule(alloc, entry)? {
-            rules.push(rule)?;
-        }
+        push_some(&mut rules, rconfig_rule(alloc, entry)?)?;
     }
     Ok(rules)
 }
@@ -216,7 +214,9 @@ fn others(built_ins: &[Rule], declared: Vec<Rule>) -> Vec<Rule>
     ensures { map rule_of result.items ≡ others (map rule_of built_ins.now) (map rule_of declared.items) }
 {
     let mut others = declared;
-    others.retain(|rule| !is_named(built_ins, rule.name.as_slice()));
+    others.retain(|rule: &Rule| -> bool
+        ensures { result ≡ not (is_some (rule_named (map rule_of built_ins.entry.now) rule.now.name)) }
+    { !is_named(built_ins, rule.name.as_slice()) });
     others
 }
 

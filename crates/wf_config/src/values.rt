@@ -15,11 +15,11 @@ use wf_model::{List, Name, Value};
 pub(crate) type NameValues = (Name, List<Value>);
 
 /// Whether the name is one of a start's date and time.
-pub(crate) fn is_start_name(built_ins: &[Rule], name: &[u8]) -> bool
-    requires { map rule_of built_ins.now ≡ built_ins }
+pub(crate) fn is_start_name(table: &[Rule], name: &[u8]) -> bool
+    requires { map rule_of table.now ≡ built_ins }
     ensures { result ≡ is_start_name name.now }
 {
-    is_named(built_ins, name) && name.starts_with(b"start_".as_slice())
+    is_named(table, name) && name.starts_with(b"start_".as_slice())
 }
 
 /// How many values a name has at least, where there are so many domains.
@@ -41,16 +41,16 @@ fn default_at(alloc: Global, default: &DefaultValue, domain: u128) -> Result<Val
 /// The value of a domain that is given none, where its name has these values.
 fn missing_value(
     alloc: Global,
-    built_ins: &[Rule],
+    table: &[Rule],
     rule: &Rule,
     given: &[Value],
     domain: u128,
 ) -> Result<Value, AllocError>
-    requires { map rule_of built_ins.now ≡ built_ins }
+    requires { map rule_of table.now ≡ built_ins }
     ensures { IfOk result (λ v. v ≡ missing_value (rule_of rule.now) given.now domain) }
 {
     match given {
-        [first, ..] if rule.each && is_start_name(built_ins, rule.name.as_slice()) => {
+        [first, ..] if rule.each && is_start_name(table, rule.name.as_slice()) => {
             copy_value(alloc, first)
         }
         _ => default_at(alloc, &rule.default, domain),
@@ -60,12 +60,12 @@ fn missing_value(
 /// The values that a name is given, and behind them those that domains have without.
 fn filled_values(
     alloc: Global,
-    built_ins: &[Rule],
+    table: &[Rule],
     domains: u128,
     rule: &Rule,
     given: &[Value],
 ) -> Result<Vec<Value>, AllocError>
-    requires { map rule_of built_ins.now ≡ built_ins }
+    requires { map rule_of table.now ≡ built_ins }
     ensures { IfOk result (λ v. v.items ≡ given.now ++ missing_values domains (rule_of rule.now) given.now) }
 {
     let missing = wanted(domains, rule).saturating_sub(given.len() as u128);
@@ -75,40 +75,40 @@ fn filled_values(
     let mut values = copy_values(alloc, given)?;
     for k in 0..missing {
         let domain = given.len() as u128 + 1 + u128::from(k);
-        values.push(missing_value(alloc, built_ins, rule, given, domain)?)?;
+        values.push(missing_value(alloc, table, rule, given, domain)?)?;
     }
     Ok(values)
 }
 
 fn filled(
     alloc: Global,
-    built_ins: &[Rule],
+    table: &[Rule],
     domains: u128,
     items: &[&Item],
     rule: &Rule,
 ) -> Result<NameValues, AllocError>
-    requires { map rule_of built_ins.now ≡ built_ins }
+    requires { map rule_of table.now ≡ built_ins }
     ensures { IfOk result (λ v. v ≡ filled domains (map (λ i. i.now) items.now) (rule_of rule.now)) }
 {
     let given = given(items, rule.group.as_slice(), rule.name.as_slice());
-    let values = filled_values(alloc, built_ins, domains, rule, given)?;
+    let values = filled_values(alloc, table, domains, rule, given)?;
     Ok((copy_name(alloc, &rule.name)?, List::from_vec(values)))
 }
 
 /// The values of each name, where there are so many domains.
 pub(crate) fn values(
     alloc: Global,
-    built_ins: &[Rule],
+    table: &[Rule],
     domains: u128,
     items: &[&Item],
     rules: &[Rule],
 ) -> Result<Vec<NameValues>, AllocError>
-    requires { map rule_of built_ins.now ≡ built_ins }
+    requires { map rule_of table.now ≡ built_ins }
     ensures { IfOk result (λ v. v.items ≡ map (λ r. filled domains (map (λ i. i.now) items.now) (rule_of r)) rules.now) }
 {
     let mut values = Vec::new(alloc);
     for rule in rules {
-        values.push(filled(alloc, built_ins, domains, items, rule)?)?;
+        values.push(filled(alloc, table, domains, items, rule)?)?;
     }
     Ok(values)
 }

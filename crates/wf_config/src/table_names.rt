@@ -8,7 +8,7 @@ ghost use Rattle.wf_model.specs.Groups.{names_in, radius_of};
 ghost use Rattle.wf_model.specs.NamesOf.{fields_from, group_parts, halo_of, halo_part, level_number, levels_in, names_of, parts_in, period_of, period_part};
 ghost use Rattle.wf_config.specs.NameParts.{field_of, level_numbers};
 
-use crate::copies::copy_name;
+use crate::copies::{copy_name, push_some};
 use crate::parts::{head_of, names_in};
 use crate::words::parts;
 use std::alloc::{AllocError, Global};
@@ -174,9 +174,7 @@ fn level_numbers(alloc: Global, levels: &[Level], group: &[u8]) -> Result<Vec<u3
     let mut numbers = Vec::new(alloc);
     let names = names_in(alloc, group)?;
     for name in names.as_slice() {
-        if let Some(number) = level_number(alloc, levels, name)? {
-            numbers.push(number)?;
-        }
+        push_some(&mut numbers, level_number(alloc, levels, name)?)?;
     }
     Ok(numbers)
 }
@@ -274,9 +272,7 @@ fn halos_of(
 {
     let mut halos = Vec::new(alloc);
     for entry in entries {
-        if let Some(halo) = halo_of(alloc, levels, entry)? {
-            halos.push(halo)?;
-        }
+        push_some(&mut halos, halo_of(alloc, levels, entry)?)?;
     }
     Ok(halos)
 }
@@ -343,9 +339,7 @@ fn periods_of(
 {
     let mut periods = Vec::new(alloc);
     for entry in entries {
-        if let Some(period) = period_of(alloc, levels, entry)? {
-            periods.push(period)?;
-        }
+        push_some(&mut periods, period_of(alloc, levels, entry)?)?;
     }
     Ok(periods)
 }

@@ -1,0 +1,9 @@
+use Rattle.std.proofs.Common.{◌≡◌, ◌+◌, sym, rules}
+use Rattle.wf_config.specs.Rules.{judged_fault, rule_of}
+use Rattle.wf_config.proofs.FirstFaults.{met_numbered}
+use Rattle.wf_config.proofs.faults.range_fault.Goals as goal
+
+pub returns-then-is_some : goal.returns-then-is_some
+returns-then-is_some c =
+    let here : c.in_ok-fault.fault ≡ judged_fault c.args.domains (rule_of c.args.rule.now) (c.loop-i.i + 1, c.index-values-i.result) = search rules in
+    met_numbered (judged_fault c.args.domains (rule_of c.args.rule.now)) c.args.values.now c.loop-i.i c.index-values-i.result c.in_ok-fault.fault _ c.loop-i-test.true c.index-values-i.is here (sym c.if-is_some.ensures) c.loop-i.invariant
