@@ -4,3 +4,5 @@ pub mod LookUps
 pub mod Loops
 pub mod Actives
 pub mod Judgements
+pub mod GroupParts
+pub mod Bound

@@ -1,9 +1,10 @@
 -- A loop that makes a list from another, item by item.
 use Rattle.std.proofs.Common.{◌≡◌, ℕ, ◌+◌, ◌<◌, ◌≤◌, Bool, true, false, List, [], ◌∷◌, ◌++◌, Option, Some, None, map, length, take, get_or, refl, sym, ap, ap₂, ◌∙◌, append_assoc}
-use Rattle.std.specs.List.{cons_option, filter_map, flat_map, list_all}
+use Rattle.std.specs.List.{cons_option, filter_map, flat_map, list_all, range_with_len}
 use Rattle.std.specs.Option.{option_map, option_to_list}
 use Rattle.std.proofs.lemmas.Bool.{false≢true}
 use Rattle.std.proofs.lemmas.List.{take_all, take_more, map-append, append-nil}
+use Rattle.std.proofs.lemmas.List.FromFn.{map-range_with_len_more}
 use Rattle.std.proofs.lemmas.List.Concat.{flat_map-append}
 use Rattle.std.proofs.lemmas.List.Folds.{flat_map-map, list_all_at, list_all-map}
 use Rattle.std.proofs.lemmas.List.Elements.{filter_map-append}
@@ -131,3 +132,12 @@ pub passes_at : {B V : Type 0} (p : B → Bool) (view : V → B) (ys : List B) (
     → i < length xs → map view xs ≡ ys → list_all p ys ≡ true → p (view (get_or xs i d)) ≡ true
 passes_at p view ys xs i d within seen all =
     passes (λ w. p (view w)) xs i d within (sym (list_all-map p view xs) ∙ ap (list_all p) seen ∙ all)
+
+-- ---- values by number
+
+pub numbered_more : {A : Type 0} (f : ℕ → A) (front made : List A) (v : A) (a n j : ℕ)
+    → a + n ≡ j → v ≡ f j → made ≡ front ++ map f (range_with_len a n) → made ++ v ∷ [] ≡ front ++ map f (range_with_len a (n + 1))
+numbered_more f front made v a n j next is so_far =
+    ap₂ (λ r y. r ++ y ∷ []) so_far is
+    ∙ append_assoc front (map f (range_with_len a n)) (f j ∷ [])
+    ∙ ap (λ r. front ++ r) (sym (map-range_with_len_more f a n j next))

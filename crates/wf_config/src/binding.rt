@@ -16,6 +16,7 @@ use std::alloc::{AllocError, Global};
 use wf_model::{Config, List, Namelist, Registry};
 
 /// The config of these values, allowed or not.
+#[tactic(auto, using(crate::proofs::Actives::active_fields))]
 fn config_from(
     alloc: Global,
     registry: &Registry,
@@ -57,39 +58,30 @@ pub fn bind(
     ensures { Gives (λ c. c) fault_of result (config_of registry.now namelist.now) }
 {
     let built_ins = built_ins(alloc)?;
+    let table = built_ins.as_slice();
     let declared = registry_rules(alloc, registry)?;
-    let fault = declarations_fault(alloc, built_ins.as_slice(), declared.as_slice())?;
-    if let Some(fault) = fault {
+    let wrong = declarations_fault(alloc, table, declared.as_slice())?;
+    if let Some(fault) = wrong {
         return Err(ConfigError::Fault(fault));
     }
-    let rules = rules_of(alloc, built_ins.as_slice(), declared)?;
-    let items = known_items(alloc, rules.as_slice(), namelist.items.as_slice())?;
-    let max_dom = max_dom(rules.as_slice(), items.as_slice());
-    let fault = items_fault(alloc, rules.as_slice(), max_dom, items.as_slice())?;
-    if let Some(fault) = fault {
+    let all_rules = rules_of(alloc, table, declared)?;
+    let rules = all_rules.as_slice();
+    let known = known_items(alloc, rules, namelist.items.as_slice())?;
+    let items = known.as_slice();
+    let max_dom = max_dom(rules, items);
+    let refused = items_fault(alloc, rules, max_dom, items)?;
+    if let Some(fault) = refused {
         return Err(ConfigError::Fault(fault));
     }
     let domains = domain_count(max_dom);
-    let fault = defaults_fault(
-        alloc,
-        built_ins.as_slice(),
-        domains,
-        items.as_slice(),
-        rules.as_slice(),
-    )?;
-    if let Some(fault) = fault {
+    let missing = defaults_fault(alloc, table, domains, items, rules)?;
+    if let Some(fault) = missing {
         return Err(ConfigError::Fault(fault));
     }
-    let values = values(
-        alloc,
-        built_ins.as_slice(),
-        domains,
-        items.as_slice(),
-        rules.as_slice(),
-    )?;
+    let values = values(alloc, table, domains, items, rules)?;
     let config = config_from(alloc, registry, values)?;
-    let fault = fields_fault(alloc, config.fields.as_slice())?;
-    match fault {
+    let float = fields_fault(alloc, config.fields.as_slice())?;
+    match float {
         Some(fault) => Err(ConfigError::Fault(fault)),
         None => Ok(config),
     }
