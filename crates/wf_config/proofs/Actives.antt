@@ -8,7 +8,8 @@ use Rattle.wf_model.specs.declared.registry.Entry.TheVariants as entry
 use Rattle.wf_model.specs.declared.registry.Registry.{Registry}
 use Rattle.wf_model.specs.Letters.{Text, lower}
 use Rattle.wf_model.specs.Groups.{groups_of, names_in}
-use Rattle.wf_model.specs.Config.{Values, is_active, is_active_symbol, package_holds, package_lists}
+use Rattle.wf_model.specs.declared.config.Config.{Config}
+use Rattle.wf_model.specs.Config.{Values, config_from, is_dimspec, is_halo, is_period, is_active, is_active_symbol, package_holds, package_lists}
 use Rattle.wf_config.specs.Active.{Listed, active_in, group_listings, holds, is_active_in, is_listing, listings}
 
 -- ---- some item passes
@@ -110,3 +111,12 @@ filter_same p q (x ∷ xs) same = ap₂ (λ b r. cond b (x ∷ r) r) (same x) (f
 
 pub active_fields : (registry : Registry) (values : Values) → filter (is_active registry values) registry.entries ≡ filter (is_active_in (flat_map (listings values) registry.entries)) registry.entries
 active_fields registry values = filter_same (is_active registry values) (is_active_in (flat_map (listings values) registry.entries)) registry.entries (active registry values)
+
+-- the config of parts that are these
+pub config_is : (registry : Registry) (values : Values) (ls : List Listed) (v : Values) (d f h p : List Entry)
+    → v ≡ values → d ≡ filter is_dimspec registry.entries → ls ≡ flat_map (listings values) registry.entries
+    → f ≡ filter (is_active_in ls) registry.entries → h ≡ filter is_halo registry.entries → p ≡ filter is_period registry.entries
+    → (let config : Config = record { values = v; dims = d; fields = f; halos = h; periods = p } in config) ≡ config_from registry values
+config_is registry values ls v d f h p ev ed el ef eh ep =
+    let active : f ≡ filter (is_active registry values) registry.entries = ef ∙ ap (λ l. filter (is_active_in l) registry.entries) el ∙ sym (active_fields registry values) in
+    λ i. record { values = ev i; dims = ed i; fields = active i; halos = eh i; periods = ep i }

@@ -21,11 +21,11 @@ use Rattle.wf_config.proofs.Loops.{map_map}
 abbrev judged : {F A : Type 0} → Option F → Option F → Option F → Option F → A → Result A F
 judged a b c d x = unless_fault (option_or (option_or (option_or a b) c) d) x
 
-four : {F A : Type 0} (as bs cs ds : List (Option F)) (x : A) → unless_fault (first_fault (as ++ bs ++ cs ++ ds)) x ≡ judged (first_fault as) (first_fault bs) (first_fault cs) (first_fault ds) x
-four as bs cs ds x =
+four : {F A : Type 0} (ks bs cs ds : List (Option F)) (x : A) → unless_fault (first_fault (ks ++ bs ++ cs ++ ds)) x ≡ judged (first_fault ks) (first_fault bs) (first_fault cs) (first_fault ds) x
+four ks bs cs ds x =
     ap (λ f. unless_fault f x)
-        (first_fault-append (as ++ bs ++ cs) ds
-        ∙ ap (λ f. option_or f (first_fault ds)) (first_fault-append (as ++ bs) cs ∙ ap (λ f. option_or f (first_fault cs)) (first_fault-append as bs)))
+        (first_fault-append (ks ++ bs ++ cs) ds
+        ∙ ap (λ f. option_or f (first_fault ds)) (first_fault-append (ks ++ bs) cs ∙ ap (λ f. option_or f (first_fault cs)) (first_fault-append ks bs)))
 
 -- ---- what each part finds
 

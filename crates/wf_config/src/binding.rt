@@ -16,7 +16,6 @@ use std::alloc::{AllocError, Global};
 use wf_model::{Config, List, Namelist, Registry};
 
 /// The config of these values, allowed or not.
-#[tactic(auto, using(crate::proofs::Actives::active_fields))]
 fn config_from(
     alloc: Global,
     registry: &Registry,
