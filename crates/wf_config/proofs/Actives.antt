@@ -60,14 +60,14 @@ package_lists_in symbol list = list_any (λ group. list_any (λ name. bytes_eq (
 lists_names : (h : Bool) (symbol list : Text) → package_lists_in symbol list ≡ list_any (is_listing symbol) (flat_map (group_listings h) (groups_of list))
 lists_names h symbol list =
     any_same (λ group. list_any (λ name. bytes_eq (lower name) symbol) (names_in group)) (λ group. list_any (is_listing symbol) (group_listings h group)) (groups_of list)
-        (λ group. sym (any_map (is_listing symbol) (λ name. (lower name, h)) (names_in group)))
+    (λ group. sym (any_map (is_listing symbol) (λ name. (lower name, h)) (names_in group)))
     ∙ sym (any_flat_map (is_listing symbol) (group_listings h) (groups_of list))
 
 held_names : (h : Bool) (symbol list : Text) → (package_lists_in symbol list && h) ≡ list_any (λ l. is_listing symbol l && l.1) (flat_map (group_listings h) (groups_of list))
 held_names h symbol list =
     sym (any_and (λ group. list_any (λ name. bytes_eq (lower name) symbol) (names_in group)) h (groups_of list))
     ∙ any_same (λ group. list_any (λ name. bytes_eq (lower name) symbol) (names_in group) && h) (λ group. list_any (λ l. is_listing symbol l && l.1) (group_listings h group)) (groups_of list)
-        (λ group. sym (any_and (λ name. bytes_eq (lower name) symbol) h (names_in group)) ∙ sym (any_map (λ (l : Listed). is_listing symbol l && l.1) (λ name. (lower name, h)) (names_in group)))
+    (λ group. sym (any_and (λ name. bytes_eq (lower name) symbol) h (names_in group)) ∙ sym (any_map (λ (l : Listed). is_listing symbol l && l.1) (λ name. (lower name, h)) (names_in group)))
     ∙ sym (any_flat_map (λ (l : Listed). is_listing symbol l && l.1) (group_listings h) (groups_of list))
 
 lists_of : (values : Values) (symbol : Text) (e : Entry) → package_lists symbol e ≡ list_any (is_listing symbol) (listings values e)
@@ -91,11 +91,11 @@ held_of values symbol (entry.Period name groups) = refl
 pub active_symbol : (registry : Registry) (values : Values) (symbol : Text) → is_active_symbol registry values symbol ≡ active_in (flat_map (listings values) registry.entries) symbol
 active_symbol registry values symbol =
     ap₂ (λ a b. a || b)
-        (none_kept (package_lists symbol) registry.entries
-            ∙ ap not (any_same (package_lists symbol) (λ e. list_any (is_listing symbol) (listings values e)) registry.entries (lists_of values symbol) ∙ sym (any_flat_map (is_listing symbol) (listings values) registry.entries)))
-        (any_filter (package_holds values) (package_lists symbol) registry.entries
-            ∙ any_same (λ e. package_lists symbol e && package_holds values e) (λ e. list_any (λ l. is_listing symbol l && l.1) (listings values e)) registry.entries (held_of values symbol)
-            ∙ sym (any_flat_map (λ (l : Listed). is_listing symbol l && l.1) (listings values) registry.entries))
+    (none_kept (package_lists symbol) registry.entries
+    ∙ ap not (any_same (package_lists symbol) (λ e. list_any (is_listing symbol) (listings values e)) registry.entries (lists_of values symbol) ∙ sym (any_flat_map (is_listing symbol) (listings values) registry.entries)))
+    (any_filter (package_holds values) (package_lists symbol) registry.entries
+    ∙ any_same (λ e. package_lists symbol e && package_holds values e) (λ e. list_any (λ l. is_listing symbol l && l.1) (listings values e)) registry.entries (held_of values symbol)
+    ∙ sym (any_flat_map (λ (l : Listed). is_listing symbol l && l.1) (listings values) registry.entries))
 
 active : (registry : Registry) (values : Values) (e : Entry) → is_active registry values e ≡ is_active_in (flat_map (listings values) registry.entries) e
 active registry values (entry.State kind symbol dims levels stagger io dname description units) = active_symbol registry values symbol

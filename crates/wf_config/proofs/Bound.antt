@@ -24,8 +24,8 @@ judged a b c d x = unless_fault (option_or (option_or (option_or a b) c) d) x
 four : {F A : Type 0} (ks bs cs ds : List (Option F)) (x : A) → unless_fault (first_fault (ks ++ bs ++ cs ++ ds)) x ≡ judged (first_fault ks) (first_fault bs) (first_fault cs) (first_fault ds) x
 four ks bs cs ds x =
     ap (λ f. unless_fault f x)
-        (first_fault-append (ks ++ bs ++ cs) ds
-        ∙ ap (λ f. option_or f (first_fault ds)) (first_fault-append (ks ++ bs) cs ∙ ap (λ f. option_or f (first_fault cs)) (first_fault-append ks bs)))
+    (first_fault-append (ks ++ bs ++ cs) ds
+    ∙ ap (λ f. option_or f (first_fault ds)) (first_fault-append (ks ++ bs) cs ∙ ap (λ f. option_or f (first_fault cs)) (first_fault-append ks bs)))
 
 -- ---- what each part finds
 
@@ -60,10 +60,10 @@ bound : (registry : Registry) (namelist : Namelist) → config_of registry namel
 unfolding config_of
 bound registry namelist =
     four (map wrong_rule (registry_rules registry))
-        (map (item_fault (rules_of registry) (max_dom (rules_of registry) (items registry namelist))) (items registry namelist))
-        (map (default_fault (count registry namelist) (items registry namelist)) (rules_of registry))
-        (map float_fault (config_from registry (values registry namelist)).fields)
-        (config_from registry (values registry namelist))
+    (map (item_fault (rules_of registry) (max_dom (rules_of registry) (items registry namelist))) (items registry namelist))
+    (map (default_fault (count registry namelist) (items registry namelist)) (rules_of registry))
+    (map float_fault (config_from registry (values registry namelist)).fields)
+    (config_from registry (values registry namelist))
 
 judged_here : {F A : Type 0} (a b c d a' b' c' d' : Option F) (x : A) → a ≡ a' → b ≡ b' → c ≡ c' → d ≡ d' → judged a b c d x ≡ judged a' b' c' d' x
 judged_here a b c d a' b' c' d' x ea eb ec ed =

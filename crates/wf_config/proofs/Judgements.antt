@@ -76,5 +76,5 @@ some_missing domains r vs fault few same =
     let more : 0 < missing_of domains r vs = omega arith in
     let number = some_number (missing_of domains r vs) more in
     sym (faults_missing domains r vs
-        ∙ ap (λ n. first_fault (map (λ d. out_of_range r (missing_value r vs d)) (range_with_len (length vs + 1) n))) number.1
-        ∙ all_same (λ d. out_of_range r (missing_value r vs d)) fault same (length vs + 1) number.0)
+    ∙ ap (λ n. first_fault (map (λ d. out_of_range r (missing_value r vs d)) (range_with_len (length vs + 1) n))) number.1
+    ∙ all_same (λ d. out_of_range r (missing_value r vs d)) fault same (length vs + 1) number.0)

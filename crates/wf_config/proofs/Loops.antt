@@ -84,10 +84,10 @@ joined_more g front made xs i x within is so_far =
     ap (λ r. r ++ g x) so_far
     ∙ append_assoc front (flat_map g (take i xs)) (g x)
     ∙ ap (λ r. front ++ r)
-        (ap (λ y. flat_map g (take i xs) ++ g y) is
-        ∙ ap (λ r. flat_map g (take i xs) ++ r) (sym (append-nil (g (get_or xs i x))))
-        ∙ sym (flat_map-append g (take i xs) (get_or xs i x ∷ []))
-        ∙ ap (flat_map g) (sym (take_more xs i x within)))
+    (ap (λ y. flat_map g (take i xs) ++ g y) is
+    ∙ ap (λ r. flat_map g (take i xs) ++ r) (sym (append-nil (g (get_or xs i x))))
+    ∙ sym (flat_map-append g (take i xs) (get_or xs i x ∷ []))
+    ∙ ap (flat_map g) (sym (take_more xs i x within)))
 
 -- ---- an item that may be none
 

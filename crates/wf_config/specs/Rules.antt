@@ -122,6 +122,6 @@ abbrev pub known_fault : ℤ → Item → NameRule → Option ConfigFault
 known_fault domains i r =
     if bytes_eq r.group i.0
     then (if list_all (is_of r.type) i.2
-        then (if nat_lt r.most (length i.2) then Some (TooMany i.1) else first_fault (map (judged_fault domains r) (enumerate_from 1 i.2)))
-        else Some (WrongType i.1))
+    then (if nat_lt r.most (length i.2) then Some (TooMany i.1) else first_fault (map (judged_fault domains r) (enumerate_from 1 i.2)))
+    else Some (WrongType i.1))
     else Some (UnknownItem i.1)

@@ -99,9 +99,7 @@ fn is_listed(listings: &[Listing], symbol: &[u8]) -> bool
 fn is_held(listings: &[Listing], symbol: &[u8]) -> bool
     ensures { result ≡ list_any (λ l. is_listing symbol.now (pair_of l) && (pair_of l).1) listings.now }
 {
-    listings
-        .iter()
-        .any(|listing| listing.symbol.as_slice() == symbol && listing.holds)
+    listings.iter().any(|listing| listing.symbol.as_slice() == symbol && listing.holds)
 }
 
 fn is_free_or_held(listings: &[Listing], symbol: &[u8]) -> bool

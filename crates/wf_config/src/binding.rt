@@ -49,11 +49,7 @@ fn config_from(
 ///
 /// Want of memory may also be told where a default of the Registry is a whole number that 128 bits don't hold, or a
 /// number of entries one that 64 bits don't hold, which no Registry that was read has.
-pub fn bind(
-    alloc: Global,
-    registry: &Registry,
-    namelist: &Namelist,
-) -> Result<Config, ConfigError>
+pub fn bind(alloc: Global, registry: &Registry, namelist: &Namelist) -> Result<Config, ConfigError>
     ensures { Gives (λ c. c) fault_of result (config_of registry.now namelist.now) }
 {
     let built_ins = built_ins(alloc)?;

@@ -38,8 +38,11 @@ pub(crate) struct Row {
 }
 
 const TIME_CONTROL: &str = "time_control";
+
 const DOMAINS: &str = "domains";
+
 const BDY_CONTROL: &str = "bdy_control";
+
 const NAMELIST_QUILT: &str = "namelist_quilt";
 
 /// A value for each domain.
@@ -47,8 +50,11 @@ const EACH: bool = true;
 /// One value.
 const ONCE: bool = false;
 
-const AUXHIST_INTERVALS: &str = "auxhist1_interval auxhist2_interval auxhist3_interval auxhist4_interval auxhist5_interval auxhist6_interval auxhist7_interval auxhist8_interval auxhist9_interval";
-const FRAMES_PER_FILE: &str = "frames_per_outfile frames_per_auxhist1 frames_per_auxhist2 frames_per_auxhist3 frames_per_auxhist4 frames_per_auxhist5 frames_per_auxhist6 frames_per_auxhist7 frames_per_auxhist8 frames_per_auxhist9";
+const AUXHIST_INTERVALS: &str =
+    "auxhist1_interval auxhist2_interval auxhist3_interval auxhist4_interval auxhist5_interval auxhist6_interval auxhist7_interval auxhist8_interval auxhist9_interval";
+
+const FRAMES_PER_FILE: &str =
+    "frames_per_outfile frames_per_auxhist1 frames_per_auxhist2 frames_per_auxhist3 frames_per_auxhist4 frames_per_auxhist5 frames_per_auxhist6 frames_per_auxhist7 frames_per_auxhist8 frames_per_auxhist9";
 
 macro_rules! row {
     ($names:expr, $group:expr, $each:expr, $kind:expr, $default:expr, $range:expr) => {
@@ -69,40 +75,229 @@ fn rows() -> [Row; 37]
     ensures names { IsTrue (list_all has_names result) }
 {
     [
-        row!("run_days run_hours run_minutes run_seconds", TIME_CONTROL, ONCE, Integer, Int(0), Between(0, 100000)),
-        row!("start_year", TIME_CONTROL, EACH, Integer, Int(2000), Between(1, 9999)),
-        row!("start_month", TIME_CONTROL, EACH, Integer, Int(1), Between(1, 12)),
-        row!("start_day", TIME_CONTROL, EACH, Integer, Int(1), Between(1, 31)),
-        row!("start_hour", TIME_CONTROL, EACH, Integer, Int(0), Between(0, 23)),
-        row!("start_minute start_second", TIME_CONTROL, EACH, Integer, Int(0), Between(0, 59)),
-        row!("input_from_file", TIME_CONTROL, EACH, Logical, FirstDomainOnly, Any),
-        row!("history_interval", TIME_CONTROL, EACH, Integer, Int(60), Between(0, 100000)),
-        row!(AUXHIST_INTERVALS, TIME_CONTROL, EACH, Integer, Int(0), Between(0, 100000)),
-        row!(FRAMES_PER_FILE, TIME_CONTROL, EACH, Integer, Int(1), Between(1, 100000)),
+        row!(
+            "run_days run_hours run_minutes run_seconds",
+            TIME_CONTROL,
+            ONCE,
+            Integer,
+            Int(0),
+            Between(0, 100000)
+        ),
+        row!(
+            "start_year",
+            TIME_CONTROL,
+            EACH,
+            Integer,
+            Int(2000),
+            Between(1, 9999)
+        ),
+        row!(
+            "start_month",
+            TIME_CONTROL,
+            EACH,
+            Integer,
+            Int(1),
+            Between(1, 12)
+        ),
+        row!(
+            "start_day",
+            TIME_CONTROL,
+            EACH,
+            Integer,
+            Int(1),
+            Between(1, 31)
+        ),
+        row!(
+            "start_hour",
+            TIME_CONTROL,
+            EACH,
+            Integer,
+            Int(0),
+            Between(0, 23)
+        ),
+        row!(
+            "start_minute start_second",
+            TIME_CONTROL,
+            EACH,
+            Integer,
+            Int(0),
+            Between(0, 59)
+        ),
+        row!(
+            "input_from_file",
+            TIME_CONTROL,
+            EACH,
+            Logical,
+            FirstDomainOnly,
+            Any
+        ),
+        row!(
+            "history_interval",
+            TIME_CONTROL,
+            EACH,
+            Integer,
+            Int(60),
+            Between(0, 100000)
+        ),
+        row!(
+            AUXHIST_INTERVALS,
+            TIME_CONTROL,
+            EACH,
+            Integer,
+            Int(0),
+            Between(0, 100000)
+        ),
+        row!(
+            FRAMES_PER_FILE,
+            TIME_CONTROL,
+            EACH,
+            Integer,
+            Int(1),
+            Between(1, 100000)
+        ),
         row!("restart", TIME_CONTROL, ONCE, Logical, No, Any),
-        row!("restart_interval", TIME_CONTROL, ONCE, Integer, Int(0), Between(0, 1000000)),
-        row!("time_step", DOMAINS, ONCE, Integer, Int(0), Between(1, 3600)),
+        row!(
+            "restart_interval",
+            TIME_CONTROL,
+            ONCE,
+            Integer,
+            Int(0),
+            Between(0, 1000000)
+        ),
+        row!(
+            "time_step",
+            DOMAINS,
+            ONCE,
+            Integer,
+            Int(0),
+            Between(1, 3600)
+        ),
         row!("max_dom", DOMAINS, ONCE, Integer, Int(1), Between(1, 8)),
-        row!("e_we e_sn", DOMAINS, EACH, Integer, Int(0), Between(2, 2000)),
+        row!(
+            "e_we e_sn",
+            DOMAINS,
+            EACH,
+            Integer,
+            Int(0),
+            Between(2, 2000)
+        ),
         row!("e_vert", DOMAINS, EACH, Integer, Int(0), Between(2, 128)),
         row!("parent_id", DOMAINS, EACH, Integer, Int(0), Between(0, 8)),
-        row!("i_parent_start j_parent_start", DOMAINS, EACH, Integer, Int(1), Between(1, 2000)),
-        row!("parent_grid_ratio", DOMAINS, EACH, Integer, Int(1), Between(1, 15)),
-        row!("parent_time_step_ratio", DOMAINS, EACH, Integer, Int(1), Between(1, 16)),
+        row!(
+            "i_parent_start j_parent_start",
+            DOMAINS,
+            EACH,
+            Integer,
+            Int(1),
+            Between(1, 2000)
+        ),
+        row!(
+            "parent_grid_ratio",
+            DOMAINS,
+            EACH,
+            Integer,
+            Int(1),
+            Between(1, 15)
+        ),
+        row!(
+            "parent_time_step_ratio",
+            DOMAINS,
+            EACH,
+            Integer,
+            Int(1),
+            Between(1, 16)
+        ),
         row!("feedback", DOMAINS, ONCE, Integer, Int(1), Between(0, 1)),
-        row!("smooth_option", DOMAINS, ONCE, Integer, Int(0), Between(0, 0)),
-        row!("nproc_x nproc_y", DOMAINS, ONCE, Integer, Int(-1), MinusOneOr(1, 2000)),
+        row!(
+            "smooth_option",
+            DOMAINS,
+            ONCE,
+            Integer,
+            Int(0),
+            Between(0, 0)
+        ),
+        row!(
+            "nproc_x nproc_y",
+            DOMAINS,
+            ONCE,
+            Integer,
+            Int(-1),
+            MinusOneOr(1, 2000)
+        ),
         row!("numtiles", DOMAINS, ONCE, Integer, Int(1), Between(1, 1000)),
-        row!("spec_bdy_width", BDY_CONTROL, ONCE, Integer, Int(5), Between(1, 20)),
+        row!(
+            "spec_bdy_width",
+            BDY_CONTROL,
+            ONCE,
+            Integer,
+            Int(5),
+            Between(1, 20)
+        ),
         row!("periodic_x periodic_y", BDY_CONTROL, EACH, Logical, No, Any),
-        row!("nio_tasks_per_group", NAMELIST_QUILT, ONCE, Integer, Int(0), Between(0, 16)),
-        row!("nio_groups", NAMELIST_QUILT, ONCE, Integer, Int(1), Between(1, 16)),
-        row!("quilt_depth", NAMELIST_QUILT, ONCE, Integer, Int(8), Between(1, 64)),
-        row!("io_form_history io_form_restart io_form_input io_form_boundary", TIME_CONTROL, ONCE, Integer, Int(2), Between(2, 2)),
-        row!("s_we s_sn s_vert", DOMAINS, EACH, Integer, Int(1), Between(1, 1)),
-        row!("time_step_fract_num", DOMAINS, ONCE, Integer, Int(0), Between(0, 0)),
-        row!("end_year end_month end_day end_hour end_minute end_second", TIME_CONTROL, EACH, Integer, Int(0), Any),
-        row!("interval_seconds debug_level", TIME_CONTROL, ONCE, Integer, Int(0), Any),
+        row!(
+            "nio_tasks_per_group",
+            NAMELIST_QUILT,
+            ONCE,
+            Integer,
+            Int(0),
+            Between(0, 16)
+        ),
+        row!(
+            "nio_groups",
+            NAMELIST_QUILT,
+            ONCE,
+            Integer,
+            Int(1),
+            Between(1, 16)
+        ),
+        row!(
+            "quilt_depth",
+            NAMELIST_QUILT,
+            ONCE,
+            Integer,
+            Int(8),
+            Between(1, 64)
+        ),
+        row!(
+            "io_form_history io_form_restart io_form_input io_form_boundary",
+            TIME_CONTROL,
+            ONCE,
+            Integer,
+            Int(2),
+            Between(2, 2)
+        ),
+        row!(
+            "s_we s_sn s_vert",
+            DOMAINS,
+            EACH,
+            Integer,
+            Int(1),
+            Between(1, 1)
+        ),
+        row!(
+            "time_step_fract_num",
+            DOMAINS,
+            ONCE,
+            Integer,
+            Int(0),
+            Between(0, 0)
+        ),
+        row!(
+            "end_year end_month end_day end_hour end_minute end_second",
+            TIME_CONTROL,
+            EACH,
+            Integer,
+            Int(0),
+            Any
+        ),
+        row!(
+            "interval_seconds debug_level",
+            TIME_CONTROL,
+            ONCE,
+            Integer,
+            Int(0),
+            Any
+        ),
         row!("time_step_fract_den", DOMAINS, ONCE, Integer, Int(1), Any),
         row!("grid_id", DOMAINS, EACH, Integer, Int(1), Any),
         row!("dx dy", DOMAINS, EACH, Real, Int(0), Any),

@@ -81,13 +81,7 @@ fn out_of_range(alloc: Global, rule: &Rule, value: &Value) -> Found
 
 /// The same of the value with this number, from 1; of a name with a value for each domain, those past the last domain
 /// aren't judged.
-fn judged_fault(
-    alloc: Global,
-    domains: i128,
-    rule: &Rule,
-    number: usize,
-    value: &Value,
-) -> Found
+fn judged_fault(alloc: Global, domains: i128, rule: &Rule, number: usize, value: &Value) -> Found
     ensures { IfOk result (λ f. f ≡ judged_fault domains (rule_of rule.now) (number, value.now)) }
 {
     if !rule.each || number as i128 <= domains {
@@ -174,12 +168,7 @@ fn rule_fault(alloc: Global, domains: i128, item: &Item, rule: Option<&Rule>) ->
 fn item_fault(alloc: Global, rules: &[Rule], domains: i128, item: &Item) -> Found
     ensures { IfOk result (λ f. f ≡ item_fault (map rule_of rules.now) domains item.now) }
 {
-    rule_fault(
-        alloc,
-        domains,
-        item,
-        rule_named(rules, item.1.as_slice()),
-    )
+    rule_fault(alloc, domains, item, rule_named(rules, item.1.as_slice()))
 }
 
 /// The first fault of an item.

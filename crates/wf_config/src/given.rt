@@ -92,11 +92,7 @@ fn default_max_dom(rules: &[Rule]) -> Option<i128>
 fn given_max_dom(items: &[&Item]) -> Option<i128>
     ensures { result ≡ if_in_i32 (first_int (given (map (λ i. i.now) items.now) in_domains (codes "max_dom"))) }
 {
-    match first_int(given(
-        items,
-        b"domains".as_slice(),
-        b"max_dom".as_slice(),
-    )) {
+    match first_int(given(items, b"domains".as_slice(), b"max_dom".as_slice())) {
         Some(number) if is_in_32(number) => Some(number),
         _ => None,
     }

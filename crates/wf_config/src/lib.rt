@@ -9,10 +9,10 @@ mod copies;
 mod error;
 mod faults;
 mod given;
-mod table_names;
 mod parts;
 mod rconfig;
 mod rule;
+mod table_names;
 mod values;
 mod words;
 

@@ -198,7 +198,11 @@ fn with_default(alloc: Global, declared: Option<&Rule>, rule: &Rule) -> Result<R
 }
 
 /// The built-in names, with the defaults that the Registry gives them.
-fn with_defaults(alloc: Global, built_ins: &[Rule], declared: &[Rule]) -> Result<Vec<Rule>, AllocError>
+fn with_defaults(
+    alloc: Global,
+    built_ins: &[Rule],
+    declared: &[Rule],
+) -> Result<Vec<Rule>, AllocError>
     ensures { IfOk result (λ v. map rule_of v.items ≡ with_defaults (map rule_of declared.now) (map rule_of built_ins.now)) }
 {
     let mut rules = Vec::new(alloc);
@@ -214,9 +218,11 @@ fn others(built_ins: &[Rule], declared: Vec<Rule>) -> Vec<Rule>
     ensures { map rule_of result.items ≡ others (map rule_of built_ins.now) (map rule_of declared.items) }
 {
     let mut others = declared;
-    others.retain(|rule: &Rule| -> bool
-        ensures { result ≡ not (is_some (rule_named (map rule_of built_ins.entry.now) rule.now.name)) }
-    { !is_named(built_ins, rule.name.as_slice()) });
+    others.retain(
+        |rule: &Rule| -> bool
+            ensures { result ≡ not (is_some (rule_named (map rule_of built_ins.entry.now) rule.now.name)) }
+        { !is_named(built_ins, rule.name.as_slice()) },
+    );
     others
 }
 

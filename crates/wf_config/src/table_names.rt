@@ -100,13 +100,7 @@ fn level_count(entry: &Entry) -> u32
     ensures few { result ≤ 2 }
 {
     match entry {
-        Entry::State { levels, .. } => {
-            if is_two(levels.as_slice()) {
-                2
-            } else {
-                1
-            }
-        }
+        Entry::State { levels, .. } => { if is_two(levels.as_slice()) { 2 } else { 1 } }
         _ => 0,
     }
 }
@@ -149,9 +143,7 @@ fn fields_of(alloc: Global, entries: &[Entry]) -> Result<Vec<FieldName>, AllocEr
 fn find_level(levels: &[Level], name: &[u8]) -> Option<usize>
     ensures { result ≡ level_number levels.now name.now }
 {
-    levels
-        .iter()
-        .position(|level| level.0.as_slice() == name)
+    levels.iter().position(|level| level.0.as_slice() == name)
 }
 
 /// The number of the level of this name in whatever case, in 32 bits.
@@ -231,11 +223,7 @@ fn add_halo_group(
 }
 
 /// The parts of all groups of a halo.
-fn halo_parts(
-    alloc: Global,
-    levels: &[Level],
-    groups: &[u8],
-) -> Result<Vec<HaloPart>, AllocError>
+fn halo_parts(alloc: Global, levels: &[Level], groups: &[u8]) -> Result<Vec<HaloPart>, AllocError>
     ensures { IfOk result (λ v. v.items ≡ parts_in halo_part levels.now groups.now) }
 {
     let mut made = Vec::new(alloc);

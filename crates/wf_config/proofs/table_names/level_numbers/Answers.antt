@@ -13,4 +13,4 @@ loop-name-preserved c =
 pub returns : goal.returns
 returns c =
     kept_all (λ name. level_number c.args.levels.now (lower name)) (λ (w : Bor (List ℕ)). w.now) c.loop-name.numbers.items c.as_slice-name-items.result.now (names_in c.args.group.now) c.loop-name.name-index c.loop-name-test.false
-        (ap (map (λ (w : Bor (List ℕ)). w.now)) c.as_slice-name-items.ensures.value ∙ c.in_ok-names.ensures) c.loop-name.invariant
+    (ap (map (λ (w : Bor (List ℕ)). w.now)) c.as_slice-name-items.ensures.value ∙ c.in_ok-names.ensures) c.loop-name.invariant
