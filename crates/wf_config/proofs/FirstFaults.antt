@@ -1,10 +1,10 @@
 -- A loop that looks for the first fault.
-use Rattle.std.proofs.Common.{◌≡◌, ℕ, ◌+◌, ◌<◌, ◌≤◌, Bool, true, false, cond, not, List, [], ◌∷◌, map, length, drop, get_or, Option, Some, None, is_some, refl, sym, ap, ◌∙◌}
-use Rattle.std.specs.List.{enumerate_from, filter}
+use Rattle.std.proofs.Common.{◌≡◌, ℕ, ◌+◌, ◌<◌, ◌≤◌, true, false, List, map, length, drop, get_or, Option, Some, None, is_some, refl, sym, ap, ◌∙◌}
+use Rattle.std.specs.List.{enumerate_from}
 use Rattle.std.specs.Option.{option_or}
 use Rattle.std.proofs.lemmas.List.{at_drop_all}
 use Rattle.std.proofs.lemmas.Bool.{false≢true}
-use Rattle.wf_model.specs.Reading.{first_fault, fault_if}
+use Rattle.wf_model.specs.Reading.{first_fault}
 use Rattle.wf_config.proofs.LookUps.{drop_at}
 
 is_none : {F : Type 0} (fault : Option F) → is_some fault ≡ false → fault ≡ None

@@ -9,7 +9,7 @@ use Rattle.wf_model.specs.declared.config.ConfigFault.TheVariants.{WrongType, Un
 use Rattle.wf_model.specs.Reading.{fault_if, first_fault}
 use Rattle.wf_model.specs.Namelist.{Item}
 use Rattle.wf_model.specs.BuiltIns.{NameRule}
-use Rattle.wf_model.specs.Config.{default_fault, given, is_judged, is_of, missing_value, missing_values, out_of_range, range_fault, rule_fault}
+use Rattle.wf_model.specs.Config.{is_judged, is_of, missing_value, missing_values, out_of_range, range_fault, rule_fault}
 use Rattle.wf_config.specs.Rules.{judged_fault, known_fault, wanted}
 use Rattle.wf_config.proofs.FirstFaults.{or_none}
 use Rattle.wf_config.proofs.Loops.{map_map}

@@ -1,5 +1,5 @@
 -- A loop that looks for a key and gives what stands beside it, or nothing.
-use Rattle.std.proofs.Common.{◌≡◌, ℕ, suc, ◌+◌, ◌<◌, ◌≤◌, Bool, true, false, cond, List, [], ◌∷◌, map, length, drop, get_or, Option, Some, None, refl, sym, ap, ◌∙◌, add-one, drop-cons, arith}
+use Rattle.std.proofs.Common.{◌≡◌, ℕ, suc, ◌+◌, ◌<◌, ◌≤◌, Bool, true, false, cond, List, [], ◌∷◌, map, length, drop, get_or, Option, Some, refl, sym, ap, ◌∙◌, add-one, drop-cons}
 use Rattle.std.specs.List.{find}
 use Rattle.std.proofs.lemmas.List.{at_drop_all}
 use Rattle.std.specs.Option.{option_map, unwrap_or}

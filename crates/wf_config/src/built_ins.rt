@@ -56,251 +56,308 @@ const AUXHIST_INTERVALS: &str =
 const FRAMES_PER_FILE: &str =
     "frames_per_outfile frames_per_auxhist1 frames_per_auxhist2 frames_per_auxhist3 frames_per_auxhist4 frames_per_auxhist5 frames_per_auxhist6 frames_per_auxhist7 frames_per_auxhist8 frames_per_auxhist9";
 
-macro_rules! row {
-    ($names:expr, $group:expr, $each:expr, $kind:expr, $default:expr, $range:expr) => {
-        Row {
-            names: $names,
-            group: $group,
-            each: $each,
-            kind: $kind,
-            default: $default,
-            range: $range,
-        }
-    };
-}
-
 /// The table, in its order.
 fn rows() -> [Row; 37]
     ensures rows { map row_of result ≡ rows }
     ensures names { IsTrue (list_all has_names result) }
 {
     [
-        row!(
-            "run_days run_hours run_minutes run_seconds",
-            TIME_CONTROL,
-            ONCE,
-            Integer,
-            Int(0),
-            Between(0, 100000)
-        ),
-        row!(
-            "start_year",
-            TIME_CONTROL,
-            EACH,
-            Integer,
-            Int(2000),
-            Between(1, 9999)
-        ),
-        row!(
-            "start_month",
-            TIME_CONTROL,
-            EACH,
-            Integer,
-            Int(1),
-            Between(1, 12)
-        ),
-        row!(
-            "start_day",
-            TIME_CONTROL,
-            EACH,
-            Integer,
-            Int(1),
-            Between(1, 31)
-        ),
-        row!(
-            "start_hour",
-            TIME_CONTROL,
-            EACH,
-            Integer,
-            Int(0),
-            Between(0, 23)
-        ),
-        row!(
-            "start_minute start_second",
-            TIME_CONTROL,
-            EACH,
-            Integer,
-            Int(0),
-            Between(0, 59)
-        ),
-        row!(
-            "input_from_file",
-            TIME_CONTROL,
-            EACH,
-            Logical,
-            FirstDomainOnly,
-            Any
-        ),
-        row!(
-            "history_interval",
-            TIME_CONTROL,
-            EACH,
-            Integer,
-            Int(60),
-            Between(0, 100000)
-        ),
-        row!(
-            AUXHIST_INTERVALS,
-            TIME_CONTROL,
-            EACH,
-            Integer,
-            Int(0),
-            Between(0, 100000)
-        ),
-        row!(
-            FRAMES_PER_FILE,
-            TIME_CONTROL,
-            EACH,
-            Integer,
-            Int(1),
-            Between(1, 100000)
-        ),
-        row!("restart", TIME_CONTROL, ONCE, Logical, No, Any),
-        row!(
-            "restart_interval",
-            TIME_CONTROL,
-            ONCE,
-            Integer,
-            Int(0),
-            Between(0, 1000000)
-        ),
-        row!(
-            "time_step",
-            DOMAINS,
-            ONCE,
-            Integer,
-            Int(0),
-            Between(1, 3600)
-        ),
-        row!("max_dom", DOMAINS, ONCE, Integer, Int(1), Between(1, 8)),
-        row!(
-            "e_we e_sn",
-            DOMAINS,
-            EACH,
-            Integer,
-            Int(0),
-            Between(2, 2000)
-        ),
-        row!("e_vert", DOMAINS, EACH, Integer, Int(0), Between(2, 128)),
-        row!("parent_id", DOMAINS, EACH, Integer, Int(0), Between(0, 8)),
-        row!(
-            "i_parent_start j_parent_start",
-            DOMAINS,
-            EACH,
-            Integer,
-            Int(1),
-            Between(1, 2000)
-        ),
-        row!(
-            "parent_grid_ratio",
-            DOMAINS,
-            EACH,
-            Integer,
-            Int(1),
-            Between(1, 15)
-        ),
-        row!(
-            "parent_time_step_ratio",
-            DOMAINS,
-            EACH,
-            Integer,
-            Int(1),
-            Between(1, 16)
-        ),
-        row!("feedback", DOMAINS, ONCE, Integer, Int(1), Between(0, 1)),
-        row!(
-            "smooth_option",
-            DOMAINS,
-            ONCE,
-            Integer,
-            Int(0),
-            Between(0, 0)
-        ),
-        row!(
-            "nproc_x nproc_y",
-            DOMAINS,
-            ONCE,
-            Integer,
-            Int(-1),
-            MinusOneOr(1, 2000)
-        ),
-        row!("numtiles", DOMAINS, ONCE, Integer, Int(1), Between(1, 1000)),
-        row!(
-            "spec_bdy_width",
-            BDY_CONTROL,
-            ONCE,
-            Integer,
-            Int(5),
-            Between(1, 20)
-        ),
-        row!("periodic_x periodic_y", BDY_CONTROL, EACH, Logical, No, Any),
-        row!(
-            "nio_tasks_per_group",
-            NAMELIST_QUILT,
-            ONCE,
-            Integer,
-            Int(0),
-            Between(0, 16)
-        ),
-        row!(
-            "nio_groups",
-            NAMELIST_QUILT,
-            ONCE,
-            Integer,
-            Int(1),
-            Between(1, 16)
-        ),
-        row!(
-            "quilt_depth",
-            NAMELIST_QUILT,
-            ONCE,
-            Integer,
-            Int(8),
-            Between(1, 64)
-        ),
-        row!(
-            "io_form_history io_form_restart io_form_input io_form_boundary",
-            TIME_CONTROL,
-            ONCE,
-            Integer,
-            Int(2),
-            Between(2, 2)
-        ),
-        row!(
-            "s_we s_sn s_vert",
-            DOMAINS,
-            EACH,
-            Integer,
-            Int(1),
-            Between(1, 1)
-        ),
-        row!(
-            "time_step_fract_num",
-            DOMAINS,
-            ONCE,
-            Integer,
-            Int(0),
-            Between(0, 0)
-        ),
-        row!(
-            "end_year end_month end_day end_hour end_minute end_second",
-            TIME_CONTROL,
-            EACH,
-            Integer,
-            Int(0),
-            Any
-        ),
-        row!(
-            "interval_seconds debug_level",
-            TIME_CONTROL,
-            ONCE,
-            Integer,
-            Int(0),
-            Any
-        ),
-        row!("time_step_fract_den", DOMAINS, ONCE, Integer, Int(1), Any),
-        row!("grid_id", DOMAINS, EACH, Integer, Int(1), Any),
-        row!("dx dy", DOMAINS, EACH, Real, Int(0), Any),
+        Row {
+            names: "run_days run_hours run_minutes run_seconds",
+            group: TIME_CONTROL,
+            each: ONCE,
+            kind: Integer,
+            default: Int(0),
+            range: Between(0, 100000),
+        },
+        Row {
+            names: "start_year",
+            group: TIME_CONTROL,
+            each: EACH,
+            kind: Integer,
+            default: Int(2000),
+            range: Between(1, 9999),
+        },
+        Row {
+            names: "start_month",
+            group: TIME_CONTROL,
+            each: EACH,
+            kind: Integer,
+            default: Int(1),
+            range: Between(1, 12),
+        },
+        Row {
+            names: "start_day",
+            group: TIME_CONTROL,
+            each: EACH,
+            kind: Integer,
+            default: Int(1),
+            range: Between(1, 31),
+        },
+        Row {
+            names: "start_hour",
+            group: TIME_CONTROL,
+            each: EACH,
+            kind: Integer,
+            default: Int(0),
+            range: Between(0, 23),
+        },
+        Row {
+            names: "start_minute start_second",
+            group: TIME_CONTROL,
+            each: EACH,
+            kind: Integer,
+            default: Int(0),
+            range: Between(0, 59),
+        },
+        Row {
+            names: "input_from_file",
+            group: TIME_CONTROL,
+            each: EACH,
+            kind: Logical,
+            default: FirstDomainOnly,
+            range: Any,
+        },
+        Row {
+            names: "history_interval",
+            group: TIME_CONTROL,
+            each: EACH,
+            kind: Integer,
+            default: Int(60),
+            range: Between(0, 100000),
+        },
+        Row {
+            names: AUXHIST_INTERVALS,
+            group: TIME_CONTROL,
+            each: EACH,
+            kind: Integer,
+            default: Int(0),
+            range: Between(0, 100000),
+        },
+        Row {
+            names: FRAMES_PER_FILE,
+            group: TIME_CONTROL,
+            each: EACH,
+            kind: Integer,
+            default: Int(1),
+            range: Between(1, 100000),
+        },
+        Row {
+            names: "restart",
+            group: TIME_CONTROL,
+            each: ONCE,
+            kind: Logical,
+            default: No,
+            range: Any,
+        },
+        Row {
+            names: "restart_interval",
+            group: TIME_CONTROL,
+            each: ONCE,
+            kind: Integer,
+            default: Int(0),
+            range: Between(0, 1000000),
+        },
+        Row {
+            names: "time_step",
+            group: DOMAINS,
+            each: ONCE,
+            kind: Integer,
+            default: Int(0),
+            range: Between(1, 3600),
+        },
+        Row {
+            names: "max_dom",
+            group: DOMAINS,
+            each: ONCE,
+            kind: Integer,
+            default: Int(1),
+            range: Between(1, 8),
+        },
+        Row {
+            names: "e_we e_sn",
+            group: DOMAINS,
+            each: EACH,
+            kind: Integer,
+            default: Int(0),
+            range: Between(2, 2000),
+        },
+        Row {
+            names: "e_vert",
+            group: DOMAINS,
+            each: EACH,
+            kind: Integer,
+            default: Int(0),
+            range: Between(2, 128),
+        },
+        Row {
+            names: "parent_id",
+            group: DOMAINS,
+            each: EACH,
+            kind: Integer,
+            default: Int(0),
+            range: Between(0, 8),
+        },
+        Row {
+            names: "i_parent_start j_parent_start",
+            group: DOMAINS,
+            each: EACH,
+            kind: Integer,
+            default: Int(1),
+            range: Between(1, 2000),
+        },
+        Row {
+            names: "parent_grid_ratio",
+            group: DOMAINS,
+            each: EACH,
+            kind: Integer,
+            default: Int(1),
+            range: Between(1, 15),
+        },
+        Row {
+            names: "parent_time_step_ratio",
+            group: DOMAINS,
+            each: EACH,
+            kind: Integer,
+            default: Int(1),
+            range: Between(1, 16),
+        },
+        Row {
+            names: "feedback",
+            group: DOMAINS,
+            each: ONCE,
+            kind: Integer,
+            default: Int(1),
+            range: Between(0, 1),
+        },
+        Row {
+            names: "smooth_option",
+            group: DOMAINS,
+            each: ONCE,
+            kind: Integer,
+            default: Int(0),
+            range: Between(0, 0),
+        },
+        Row {
+            names: "nproc_x nproc_y",
+            group: DOMAINS,
+            each: ONCE,
+            kind: Integer,
+            default: Int(-1),
+            range: MinusOneOr(1, 2000),
+        },
+        Row {
+            names: "numtiles",
+            group: DOMAINS,
+            each: ONCE,
+            kind: Integer,
+            default: Int(1),
+            range: Between(1, 1000),
+        },
+        Row {
+            names: "spec_bdy_width",
+            group: BDY_CONTROL,
+            each: ONCE,
+            kind: Integer,
+            default: Int(5),
+            range: Between(1, 20),
+        },
+        Row {
+            names: "periodic_x periodic_y",
+            group: BDY_CONTROL,
+            each: EACH,
+            kind: Logical,
+            default: No,
+            range: Any,
+        },
+        Row {
+            names: "nio_tasks_per_group",
+            group: NAMELIST_QUILT,
+            each: ONCE,
+            kind: Integer,
+            default: Int(0),
+            range: Between(0, 16),
+        },
+        Row {
+            names: "nio_groups",
+            group: NAMELIST_QUILT,
+            each: ONCE,
+            kind: Integer,
+            default: Int(1),
+            range: Between(1, 16),
+        },
+        Row {
+            names: "quilt_depth",
+            group: NAMELIST_QUILT,
+            each: ONCE,
+            kind: Integer,
+            default: Int(8),
+            range: Between(1, 64),
+        },
+        Row {
+            names: "io_form_history io_form_restart io_form_input io_form_boundary",
+            group: TIME_CONTROL,
+            each: ONCE,
+            kind: Integer,
+            default: Int(2),
+            range: Between(2, 2),
+        },
+        Row {
+            names: "s_we s_sn s_vert",
+            group: DOMAINS,
+            each: EACH,
+            kind: Integer,
+            default: Int(1),
+            range: Between(1, 1),
+        },
+        Row {
+            names: "time_step_fract_num",
+            group: DOMAINS,
+            each: ONCE,
+            kind: Integer,
+            default: Int(0),
+            range: Between(0, 0),
+        },
+        Row {
+            names: "end_year end_month end_day end_hour end_minute end_second",
+            group: TIME_CONTROL,
+            each: EACH,
+            kind: Integer,
+            default: Int(0),
+            range: Any,
+        },
+        Row {
+            names: "interval_seconds debug_level",
+            group: TIME_CONTROL,
+            each: ONCE,
+            kind: Integer,
+            default: Int(0),
+            range: Any,
+        },
+        Row {
+            names: "time_step_fract_den",
+            group: DOMAINS,
+            each: ONCE,
+            kind: Integer,
+            default: Int(1),
+            range: Any,
+        },
+        Row {
+            names: "grid_id",
+            group: DOMAINS,
+            each: EACH,
+            kind: Integer,
+            default: Int(1),
+            range: Any,
+        },
+        Row {
+            names: "dx dy",
+            group: DOMAINS,
+            each: EACH,
+            kind: Real,
+            default: Int(0),
+            range: Any,
+        },
     ]
 }
 

@@ -1,4 +1,4 @@
-use Rattle.std.proofs.Common.{◌≡◌, Bor, List, map, Option, None, if◌then◌else◌, ap, ap₂, sym, ◌∙◌, rules, FitsSigned, to_z, of_z}
+use Rattle.std.proofs.Common.{◌≡◌, Bor, map, None, if◌then◌else◌, ap, ap₂, sym, ◌∙◌, rules, FitsSigned, to_z, of_z}
 use Rattle.std.specs.Prelude.{pos, int_le, unsigned_abs}
 use Rattle.std.specs.List.{filter}
 use Rattle.std.specs.Int.{w128}

@@ -1,4 +1,4 @@
-use Rattle.std.proofs.Common.{◌≡◌, List, map, ap, ap₂, ◌∙◌}
+use Rattle.std.proofs.Common.{map, ap, ap₂, ◌∙◌}
 use Rattle.std.specs.List.{filter, flat_map}
 use Rattle.wf_config.specs.declared.active.Sort.TheVariants as sort
 use Rattle.wf_config.specs.Active.{is_active_in, is_of_sort, listings, pair_of}

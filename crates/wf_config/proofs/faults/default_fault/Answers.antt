@@ -1,4 +1,4 @@
-use Rattle.std.proofs.Common.{◌≡◌, ◌∙◌, ◌<◌, ◌≤◌, length, Bor, map, ap, arith, rules}
+use Rattle.std.proofs.Common.{◌≡◌, ◌∙◌, ◌<◌, ◌≤◌, length, Bor, map, ap, arith}
 use Rattle.wf_model.specs.Reading.{first_fault}
 use Rattle.wf_model.specs.Config.{given, missing_values, out_of_range}
 use Rattle.wf_model.specs.Namelist.{Item}
