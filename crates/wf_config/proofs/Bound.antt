@@ -9,7 +9,7 @@ use Rattle.wf_model.specs.declared.config.ConfigFault.{ConfigFault}
 use Rattle.wf_model.specs.Reading.{first_fault, unless_fault}
 use Rattle.wf_model.proofs.ReadingLemmas.{first_fault-append}
 use Rattle.wf_model.specs.Namelist.{Item}
-use Rattle.wf_model.specs.BuiltIns.{NameRule, built_ins}
+use Rattle.wf_model.specs.BuiltIns.{built_ins}
 use Rattle.wf_model.specs.Config.{Values, config_from, config_of, default_fault, domain_count, filled, float_fault, item_fault, known_items, max_dom, registry_rules, rules_of, wrong_rule}
 use Rattle.wf_config.specs.declared.rule.Rule.{Rule}
 use Rattle.wf_config.specs.Rules.{others, rule_of, with_defaults, wrong_rule_in}
@@ -27,9 +27,6 @@ four ks bs cs ds x =
     ∙ ap (λ f. option_or f (first_fault ds)) (first_fault-append (ks ++ bs) cs ∙ ap (λ f. option_or f (first_fault cs)) (first_fault-append ks bs)))
 
 -- ---- what each part finds
-
-abbrev rules : Registry → List NameRule
-rules registry = rules_of registry
 
 abbrev pub items : Registry → Namelist → List Item
 items registry namelist = known_items (rules_of registry) namelist
@@ -63,10 +60,6 @@ bound registry namelist =
     (map (default_fault (count registry namelist) (items registry namelist)) (rules_of registry))
     (map float_fault (config_from registry (values registry namelist)).fields)
     (config_from registry (values registry namelist))
-
-judged_here : {F A : Type 0} (a b c d a' b' c' d' : Option F) (x : A) → a ≡ a' → b ≡ b' → c ≡ c' → d ≡ d' → judged a b c d x ≡ judged a' b' c' d' x
-judged_here a b c d a' b' c' d' x ea eb ec ed =
-    ap₂ (λ a b. judged a b c d x) ea eb ∙ ap₂ (λ c d. judged a' b' c d x) ec ed
 
 pub refused_declaration : (registry : Registry) (namelist : Namelist) (f : ConfigFault) → Some f ≡ in_declarations registry → config_of registry namelist ≡ Err f
 refused_declaration registry namelist f here =

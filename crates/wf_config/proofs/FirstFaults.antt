@@ -1,15 +1,10 @@
 -- A loop that looks for the first fault.
-use Rattle.std.proofs.Common.{◌≡◌, ℕ, ◌+◌, ◌<◌, ◌≤◌, true, false, List, map, length, drop, get_or, Option, Some, None, is_some, refl, sym, ap, ◌∙◌}
+use Rattle.std.proofs.Common.{◌≡◌, ℕ, ◌+◌, ◌<◌, true, List, map, length, drop, get_or, Option, Some, None, is_some, refl, sym, ap, ◌∙◌}
 use Rattle.std.specs.List.{enumerate_from}
 use Rattle.std.specs.Option.{option_or}
-use Rattle.std.proofs.lemmas.List.{at_drop_all}
 use Rattle.std.proofs.lemmas.Bool.{false≢true}
 use Rattle.wf_model.specs.Reading.{first_fault}
 use Rattle.wf_config.proofs.LookUps.{drop_at}
-
-is_none : {F : Type 0} (fault : Option F) → is_some fault ≡ false → fault ≡ None
-is_none None e = refl
-is_none (Some f) e = absurd (false≢true (sym e))
 
 stays : {F : Type 0} (fault rest : Option F) → is_some fault ≡ true → fault ≡ option_or fault rest
 stays None rest e = absurd (false≢true e)
@@ -19,39 +14,10 @@ pub or_none : {F : Type 0} (fault : Option F) → option_or fault None ≡ fault
 or_none None = refl
 or_none (Some f) = refl
 
--- the next has no fault
-pub passed : {A F : Type 0} (f : A → Option F) (xs : List A) (i : ℕ) (x : A) (fault total : Option F)
-    → i < length xs → x ≡ get_or xs i x → fault ≡ f x → is_some fault ≡ false
-    → first_fault (map f (drop i xs)) ≡ total → first_fault (map f (drop (i + 1) xs)) ≡ total
-passed f xs i x fault total within is same without so_far =
-    ap (λ o. option_or o (first_fault (map f (drop (i + 1) xs)))) (sym (is_none fault without) ∙ same)
-    ∙ ap (λ ys. first_fault (map f ys)) (sym (drop_at xs i x within is)) ∙ so_far
-
--- the next has one
-pub met : {A F : Type 0} (f : A → Option F) (xs : List A) (i : ℕ) (x : A) (fault total : Option F)
-    → i < length xs → x ≡ get_or xs i x → fault ≡ f x → is_some fault ≡ true
-    → first_fault (map f (drop i xs)) ≡ total → fault ≡ total
-met f xs i x fault total within is same with_one so_far =
-    stays fault (first_fault (map f (drop (i + 1) xs))) with_one
-    ∙ ap (λ o. option_or o (first_fault (map f (drop (i + 1) xs)))) same
-    ∙ ap (λ ys. first_fault (map f ys)) (sym (drop_at xs i x within is)) ∙ so_far
-
--- none had one
-pub ended : {A F : Type 0} (f : A → Option F) (xs : List A) (i : ℕ) (total : Option F)
-    → length xs ≤ i → first_fault (map f (drop i xs)) ≡ total → None ≡ total
-ended f xs i total end so_far = sym (at_drop_all (λ ys. first_fault (map f ys)) xs i end) ∙ so_far
-
 -- ---- the same of items with their numbers
 
 abbrev numbered : {A F : Type 0} → (ℕ × A → Option F) → ℕ → List A → Option F
 numbered f n xs = first_fault (map f (enumerate_from n xs))
-
-pub passed_numbered : {A F : Type 0} (f : ℕ × A → Option F) (xs : List A) (i : ℕ) (x : A) (fault total : Option F)
-    → i < length xs → x ≡ get_or xs i x → fault ≡ f (i + 1, x) → is_some fault ≡ false
-    → numbered f (i + 1) (drop i xs) ≡ total → numbered f (i + 1 + 1) (drop (i + 1) xs) ≡ total
-passed_numbered f xs i x fault total within is same without so_far =
-    ap (λ o. option_or o (numbered f (i + 1 + 1) (drop (i + 1) xs))) (sym (is_none fault without) ∙ same)
-    ∙ ap (numbered f (i + 1)) (sym (drop_at xs i x within is)) ∙ so_far
 
 pub met_numbered : {A F : Type 0} (f : ℕ × A → Option F) (xs : List A) (i : ℕ) (x : A) (fault total : Option F)
     → i < length xs → x ≡ get_or xs i x → fault ≡ f (i + 1, x) → is_some fault ≡ true
@@ -60,7 +26,3 @@ met_numbered f xs i x fault total within is same with_one so_far =
     stays fault (numbered f (i + 1 + 1) (drop (i + 1) xs)) with_one
     ∙ ap (λ o. option_or o (numbered f (i + 1 + 1) (drop (i + 1) xs))) same
     ∙ ap (numbered f (i + 1)) (sym (drop_at xs i x within is)) ∙ so_far
-
-pub ended_numbered : {A F : Type 0} (f : ℕ × A → Option F) (xs : List A) (i : ℕ) (total : Option F)
-    → length xs ≤ i → numbered f (i + 1) (drop i xs) ≡ total → None ≡ total
-ended_numbered f xs i total end so_far = sym (at_drop_all (numbered f (i + 1)) xs i end) ∙ so_far

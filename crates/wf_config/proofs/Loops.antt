@@ -3,27 +3,14 @@ use Rattle.std.proofs.Common.{◌≡◌, ℕ, ◌+◌, ◌<◌, ◌≤◌, Bool,
 use Rattle.std.specs.List.{cons_option, filter_map, flat_map, list_all, range_with_len}
 use Rattle.std.specs.Option.{option_map, option_to_list}
 use Rattle.std.proofs.lemmas.Bool.{false≢true}
-use Rattle.std.proofs.lemmas.List.{take_all, take_more, map-append, append-nil}
+use Rattle.std.proofs.lemmas.List.{take_all, take_more, map-append}
 use Rattle.std.proofs.lemmas.List.FromFn.{map-range_with_len_more}
-use Rattle.std.proofs.lemmas.List.Concat.{flat_map-append}
 use Rattle.std.proofs.lemmas.List.Folds.{flat_map-map, list_all_at, list_all-map}
 use Rattle.std.proofs.lemmas.List.Elements.{filter_map-append}
 
 pub map_map : {A B C : Type 0} (f : A → B) (g : B → C) (xs : List A) → map g (map f xs) ≡ map (λ x. g (f x)) xs
 map_map f g [] = refl
 map_map f g (x ∷ xs) = ap (λ r. g (f x) ∷ r) (map_map f g xs)
-
--- one item more is made
-pub made_more : {A B C : Type 0} (f : A → C) (g : B → C) (front : List C) (made : List A) (a : A) (xs : List B) (i : ℕ) (x : B)
-    → i < length xs → x ≡ get_or xs i x → f a ≡ g x → map f made ≡ front ++ map g (take i xs)
-    → map f (made ++ a ∷ []) ≡ front ++ map g (take (i + 1) xs)
-made_more f g front made a xs i x within is same so_far =
-    map-append f made (a ∷ [])
-    ∙ ap (λ r. r ++ f a ∷ []) so_far
-    ∙ append_assoc front (map g (take i xs)) (f a ∷ [])
-    ∙ ap (λ y. front ++ (map g (take i xs) ++ y ∷ [])) (same ∙ ap g is)
-    ∙ ap (λ r. front ++ r) (sym (map-append g (take i xs) (get_or xs i x ∷ [])))
-    ∙ ap (λ ys. front ++ map g ys) (sym (take_more xs i x within))
 
 abbrev option_list : {A : Type 0} → Option A → List A
 option_list None = []
@@ -40,18 +27,6 @@ filter_map_more h xs i x o within is gives =
     ap (filter_map h) (take_more xs i x within)
     ∙ filter_map-append h (take i xs) (get_or xs i x ∷ [])
     ∙ ap (λ r. filter_map h (take i xs) ++ r) (one_more h (get_or xs i x) o (ap h (sym is) ∙ gives))
-
-pub kept_more : {A B C : Type 0} (f : A → C) (h : B → Option C) (made : List A) (a : A) (xs : List B) (i : ℕ) (x : B)
-    → i < length xs → x ≡ get_or xs i x → h x ≡ Some (f a) → map f made ≡ filter_map h (take i xs)
-    → map f (made ++ a ∷ []) ≡ filter_map h (take (i + 1) xs)
-kept_more f h made a xs i x within is gives so_far =
-    map-append f made (a ∷ []) ∙ ap (λ r. r ++ f a ∷ []) so_far ∙ sym (filter_map_more h xs i x (Some (f a)) within is gives)
-
-pub left_out : {A B C : Type 0} (f : A → C) (h : B → Option C) (made : List A) (xs : List B) (i : ℕ) (x : B)
-    → i < length xs → x ≡ get_or xs i x → h x ≡ None → map f made ≡ filter_map h (take i xs)
-    → map f made ≡ filter_map h (take (i + 1) xs)
-left_out f h made xs i x within is gives so_far =
-    so_far ∙ sym (append-nil (filter_map h (take i xs))) ∙ sym (filter_map_more h xs i x None within is gives)
 
 -- ---- a loop's end, where the list that it goes over is seen as another
 
@@ -76,18 +51,6 @@ pub joined_all : {B C V : Type 0} (g : B → List C) (view : V → B) (front mad
     → length xs ≤ i → map view xs ≡ ys → made ≡ front ++ flat_map (λ w. g (view w)) (take i xs) → made ≡ front ++ flat_map g ys
 joined_all g view front made xs ys i end seen so_far =
     so_far ∙ ap (λ zs. front ++ flat_map (λ w. g (view w)) zs) (take_all i xs end) ∙ ap (λ r. front ++ r) (sym (flat_map-map g view xs) ∙ ap (flat_map g) seen)
-
--- one list more is joined
-pub joined_more : {B C : Type 0} (g : B → List C) (front made : List C) (xs : List B) (i : ℕ) (x : B)
-    → i < length xs → x ≡ get_or xs i x → made ≡ front ++ flat_map g (take i xs) → made ++ g x ≡ front ++ flat_map g (take (i + 1) xs)
-joined_more g front made xs i x within is so_far =
-    ap (λ r. r ++ g x) so_far
-    ∙ append_assoc front (flat_map g (take i xs)) (g x)
-    ∙ ap (λ r. front ++ r)
-    (ap (λ y. flat_map g (take i xs) ++ g y) is
-    ∙ ap (λ r. flat_map g (take i xs) ++ r) (sym (append-nil (g (get_or xs i x))))
-    ∙ sym (flat_map-append g (take i xs) (get_or xs i x ∷ []))
-    ∙ ap (flat_map g) (sym (take_more xs i x within)))
 
 -- ---- an item that may be none
 
