@@ -1,0 +1,4 @@
+pub mod Active
+pub mod ConfigErrors
+pub mod NameParts
+pub mod Rules
