@@ -1,0 +1,5 @@
+pub mod Words
+pub mod Kinds
+pub mod IoLengths
+pub mod Heads
+pub mod Axes
