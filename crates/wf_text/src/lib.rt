@@ -6,11 +6,16 @@
 #![tactic(auto)]
 
 mod error;
+mod forms;
 mod logical;
 mod physical;
 mod words;
 
 pub use error::TextError;
+pub use forms::{
+    digits_up_to, is_dash, is_decimal, is_digits, is_false_word, is_number_within, is_true_word,
+    is_whole_in_32, lower, upper, whole, whole_in_32,
+};
 pub use logical::{LinesRead, read_lines, read_until_fault};
 
 #[cfg(test)]

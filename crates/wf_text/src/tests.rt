@@ -154,3 +154,39 @@ fn hostile_texts_are_answered(rt: HostRuntime) -> Result<(), Fail> {
     assert_eq!(rt; answer(&rt, "\0 \0\0\n")?.as_str(), "1: 1.\0 3.\0\0|");
     Ok(())
 }
+
+#[test]
+fn words_are_numbers(rt: HostRuntime) -> Result<(), Fail> {
+    for (word, number) in [
+        ("0", Some(0)),
+        ("007", Some(7)),
+        ("-2147483648", Some(-2147483648)),
+        ("+2147483647", Some(2147483647)),
+        ("2147483648", None),
+        ("-", None),
+        ("", None),
+        ("1.", None),
+        ("1e3", None),
+    ] {
+        assert_eq!(rt; whole_in_32(word.as_bytes()), number, "of {word:?}");
+    }
+    Ok(())
+}
+
+#[test]
+fn words_are_decimal_numbers(rt: HostRuntime) -> Result<(), Fail> {
+    for (word, is) in [
+        ("30000.", true),
+        ("-.5", true),
+        ("1e3", true),
+        ("+1.5D-3", true),
+        (".", false),
+        ("1", false),
+        ("1e", false),
+        ("1.2.3", false),
+        ("1e3e4", false),
+    ] {
+        assert_eq!(rt; is_decimal(word.as_bytes()), is, "of {word:?}");
+    }
+    Ok(())
+}
