@@ -1,5 +1,5 @@
 -- The parts of the IO column, one after another.
-use Rattle.std.proofs.Common.{◌≡◌, ◌∙◌, sym, ap, ap₂, refl, ℕ, zero, suc, ◌+◌, ◌-◌, ◌≤◌, get_or, true≢false, Bool, true, false, cond, List, [], ◌∷◌, drop, take, length, Option, Some, None, Result, Ok, Err, arith, subst}
+use Rattle.std.proofs.Common.{◌≡◌, ◌∙◌, sym, ap, ap₂, refl, ℕ, zero, suc, ◌+◌, ◌-◌, ◌≤◌, get_or, true≢false, Bool, true, false, [], ◌∷◌, drop, take, length, Some, None, Result, Ok, Err, arith, subst}
 use Rattle.std.specs.Prelude.{◌==◌, ◌||◌, ◌&&◌, not, if◌then◌else◌, nat_lt}
 use Rattle.std.specs.List.{before_first, prefix_len, take_while}
 use Rattle.std.specs.Char.{is_ascii_digit}
@@ -59,10 +59,12 @@ function_part-len letter (b ∷ bs) = by (b == 40) refl
     len-if : (t : Bool) (x : IoPart) (m n : ℕ) → m ≡ n → len_of (if t then Ok (x, m) else Err Columns) ≡ (let r : Result ℕ RegistryKind = if t then Ok n else Err Columns in r)
     len-if true x m n e = ap (λ (k : ℕ). Ok k) e
     len-if false x m n e = refl
+
     opened : len_of (function_part letter (40 ∷ bs)) ≡ function_len (40 ∷ bs)
     opened =
         len_of-if _ _ _
         ∙ ap₂ (λ (s : Bool) (n : ℕ). let r : Result ℕ RegistryKind = if s && is_name (before_first is_colon (before_first is_closing bs)) then Ok n else Err Columns in r) (has_closing bs) (two_more bs)
+
     by : (t : Bool) → (b == 40) ≡ t → len_of (function_part letter (b ∷ bs)) ≡ function_len (b ∷ bs)
     by false e =
         ap (λ (s : Bool). len_of (if s && has is_closing (b ∷ bs) && is_name (before_first is_colon (before_first is_closing bs)) then Ok (fed letter (Some (lower (before_first is_colon (before_first is_closing bs)))), length (before_first is_closing (b ∷ bs)) + 2) else Err Columns)) e

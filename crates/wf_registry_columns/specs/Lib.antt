@@ -3,3 +3,5 @@ pub mod Kinds
 pub mod IoLengths
 pub mod Heads
 pub mod Axes
+pub mod FoundAxis
+pub mod Texts

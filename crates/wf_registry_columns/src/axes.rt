@@ -1,9 +1,12 @@
 //! The letters of dimspecs, and their axes.
 
-ghost use Rattle.std.specs.Prelude.{◌≡◌, ◌++◌, ◌∷◌, [], OnOk};
+ghost use Rattle.std.specs.Prelude.{◌≡◌, ◌==◌, ◌++◌, ◌∷◌, [], OnOk, find};
+ghost use Rattle.std.specs.List.{list_any};
+ghost use Rattle.std.specs.Option.{option_copied};
 ghost use Rattle.wf_model.specs.Entries.{axis_of};
 ghost use Rattle.wf_model.specs.Judging.{is_known};
 ghost use Rattle.wf_registry_columns.specs.Axes.{HasAxesOf, bare_dimspec};
+ghost use Rattle.wf_registry_columns.specs.FoundAxis.{found_axis};
 
 use std::alloc::{AllocError, Global};
 use std::marker::Model;
@@ -12,6 +15,27 @@ use std::marker::Model;
 struct Letter {
     letter: u8,
     axis: u8,
+}
+
+fn has_letter(letters: &[Letter], letter: u8) -> bool
+    ensures { result ≡ list_any (λ l. letter == l.letter) letters.now }
+{
+    letters.iter().any(|l| letter == l.letter)
+}
+
+fn find_letter(letters: &[Letter], letter: u8) -> Option<&Letter>
+    ensures { option_copied result ≡ find (λ l. letter == l.letter) letters.now }
+{
+    letters.iter().find(|l| letter == l.letter)
+}
+
+fn axis_in(letters: &[Letter], letter: u8) -> u8
+    ensures { result ≡ found_axis (find (λ l. letter == l.letter) letters.now) }
+{
+    match find_letter(letters, letter) {
+        Some(found) => found.axis,
+        None => 0,
+    }
 }
 
 /// The letters that dimspecs declare, each with the axis of its first dimspec.
@@ -43,20 +67,18 @@ impl Axes {
     }
 
     /// Whether some dimspec has this letter.
+    #[tactic(auto, using(crate::proofs::AxisLemmas::known_in))]
     pub fn is_known(&self, letter: u8) -> bool
         ensures { result ≡ is_known self.now letter }
     {
-        self.letters.iter().any(|l| letter == l.letter)
+        has_letter(&self.letters, letter)
     }
 
     /// The axis of a letter: `x`, `y` or `z`, or the byte that stood in its place; 0 where no dimspec has the letter.
     pub fn axis_of(&self, letter: u8) -> u8
         ensures { result ≡ axis_of self.now letter }
     {
-        match self.letters.iter().find(|l| letter == l.letter) {
-            Some(l) => l.axis,
-            None => 0,
-        }
+        axis_in(&self.letters, letter)
     }
 
     /// Adds a dimspec with this letter and axis behind the others.

@@ -6,8 +6,8 @@ ghost use Rattle.std.specs.Char.{is_ascii_alphabetic};
 ghost use Rattle.wf_model.specs.Judging.{all_known, dims_fault, is_in_order, is_stagger, stagger_fault};
 
 use crate::axes::Axes;
-use crate::forms::is_dash;
 use wf_model::RegistryKind;
+use wf_text::is_dash;
 
 /// Whether each letter is that of a dimspec.
 pub fn all_known(axes: &Axes, dims: &[u8]) -> bool

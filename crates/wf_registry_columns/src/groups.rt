@@ -9,8 +9,9 @@ ghost use Rattle.wf_model.specs.Io.{is_colon};
 ghost use Rattle.wf_model.specs.Reading.{first_fault};
 ghost use Rattle.wf_registry_columns.specs.Heads.{head_rule, parts_left};
 
-use crate::forms::{digits_up_to, is_number_within};
+use crate::words::place_of;
 use wf_model::{Name, RegistryKind};
+use wf_text::{digits_up_to, is_number_within};
 
 /// What may stand before the colon of a group.
 #[derive(Clone, Copy, Debug, PartialEq, Eq)]
@@ -22,13 +23,6 @@ pub enum Head {
     Points,
     /// The width of a period, 1 to 6.
     Width,
-}
-
-fn place_of(bytes: &[u8], separator: u8) -> Option<usize>
-    ensures place { result ≡ position (λ b. b == separator) bytes.now }
-    ensures bound { IfSome result (λ at. at < length bytes.now) }
-{
-    bytes.iter().position(|b| *b == separator)
 }
 
 /// The bytes before the first `separator`, and those behind it where there is one.

@@ -7,8 +7,8 @@ ghost use Rattle.wf_model.specs.Io.{io_from, io_of, is_closing, is_colon};
 ghost use Rattle.wf_model.specs.Judging.{fault_of_result};
 ghost use Rattle.wf_registry_columns.specs.IoLengths.{function_len, letter_len, part_len};
 
-use crate::forms::is_dash;
 use wf_model::{Name, RegistryKind};
+use wf_text::is_dash;
 
 /// How many of these bytes stand before the first `)`.
 fn closing_at(bytes: &[u8]) -> Option<usize>

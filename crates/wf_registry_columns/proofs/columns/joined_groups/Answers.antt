@@ -1,5 +1,9 @@
-use Rattle.std.proofs.Common.{◌≡◌, ◌∙◌, sym, ap}
+use Rattle.std.proofs.Common.{◌∙◌, sym, ap₂, ◌++◌}
+use Rattle.wf_registry_columns.proofs.JoinedWords.{joined_more}
 use Rattle.wf_registry_columns.proofs.columns.joined_groups.Goals as goal
 
 pub loop-word-preserved : goal.loop-word-preserved
-loop-word-preserved c = let h = c.word-item.is in let g = c.as_slice.ensures in let f = c.in_ok-extend_from_slice.ensures in let e = c.loop-word.invariant in let d = c.loop-word-test.true in ?
+loop-word-preserved c =
+    c.in_ok-extend_from_slice.ensures.items
+    ∙ ap₂ (λ a b. a ++ b) c.loop-word.invariant c.as_slice.ensures
+    ∙ sym (joined_more c.behind_two-tail.result.now c.loop-word.word-index c.word-item.result c.loop-word-test.true c.word-item.is)

@@ -1,5 +1,4 @@
 use Rattle.std.proofs.Common.{◌≡◌, take}
-use Rattle.std.specs.Prelude.{map}
 use Rattle.std.specs.List.{concat}
 use Rattle.wf_registry_columns.specs.Words.{word_texts}
 use Rattle.wf_registry_columns.proofs.columns.joined_groups.Given as goal
