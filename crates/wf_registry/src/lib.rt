@@ -1,13 +1,9 @@
-// A library with one function.
+//! The Registry of a run, read from its files.
+//!
+//! A Registry has an entry for each of its lines that counts, in WRF's kinds. The lines are judged one after another;
+//! names that nothing declares are looked for last.
 #![tactic(auto)]
 
-ghost use Rattle.std.specs.Prelude.{◌≡◌};
-ghost use Rattle.wf_registry.specs.Echo.{echo_of};
-
-// The `ensures` clause is the contract: what `echo` returns is `echo_of` of its argument, a definition
-// in `specs/Echo.antt`, which a caller's clause can cite too.
-pub fn echo(x: usize) -> usize
-    ensures { result ≡ echo_of x }
-{
-    x
-}
+mod declared;
+mod indexing;
+mod names;

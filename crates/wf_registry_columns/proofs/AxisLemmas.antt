@@ -40,15 +40,15 @@ some-if : {X : Type 0} (t : Bool) (x : X) (o : Option X) (b : Bool) → is_some 
 some-if true x o b e = refl
 some-if false x o b e = e
 
-is_some-find : {X : Type 0} (p : X → Bool) (xs : List X) → is_some (find p xs) ≡ list_any p xs
+pub is_some-find : {X : Type 0} (p : X → Bool) (xs : List X) → is_some (find p xs) ≡ list_any p xs
 is_some-find p [] = refl
 is_some-find p (x ∷ xs) = some-if (p x) x (find p xs) (list_any p xs) (is_some-find p xs)
 
-option_or-some : {X : Type 0} (o p : Option X) → is_some o ≡ true → option_or o p ≡ o
+pub option_or-some : {X : Type 0} (o p : Option X) → is_some o ≡ true → option_or o p ≡ o
 option_or-some (Some x) p e = refl
 option_or-some None p e = absurd (true≢false (sym e))
 
-option_or-none : {X : Type 0} (o : Option X) → option_or o None ≡ o
+pub option_or-none : {X : Type 0} (o : Option X) → option_or o None ≡ o
 option_or-none (Some x) = refl
 option_or-none None = refl
 
