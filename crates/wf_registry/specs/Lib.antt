@@ -1,2 +1,4 @@
 pub mod Adding
 pub mod Indexing
+pub mod Lines
+pub mod RegistryErrors

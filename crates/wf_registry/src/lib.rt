@@ -5,5 +5,9 @@
 #![tactic(auto)]
 
 mod declared;
+mod dimspec;
+mod error;
 mod indexing;
 mod names;
+
+pub use error::RegistryError;
