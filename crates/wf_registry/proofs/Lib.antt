@@ -1,2 +1,5 @@
+pub mod AxisGathering
 pub mod IndexLemmas
 pub mod IntegerLemmas
+pub mod NamesInLower
+pub mod Sharing

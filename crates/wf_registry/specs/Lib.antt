@@ -1,4 +1,6 @@
 pub mod Adding
 pub mod Indexing
+pub mod FieldNames
 pub mod Lines
+pub mod LineEntries
 pub mod RegistryErrors

@@ -3,6 +3,7 @@
 ghost use Rattle.std.specs.Prelude.{◌≡◌, ◌++◌, ◌∷◌, [], IfOk, flat_map};
 ghost use Rattle.wf_model.specs.Letters.{is_among};
 ghost use Rattle.wf_model.specs.Entries.{declares, dimspecs, rconfigs, packages, halos, periods, entry_datasets, entry_levels, entry_symbol, entry_variables, is_integer_rconfig};
+ghost use Rattle.wf_model.specs.Judging.{taken_names};
 
 use crate::indexing::{
     add_datasets, add_dimspec, add_halo, add_integer, add_levels, add_package, add_period,
@@ -176,6 +177,14 @@ impl Declared {
         ensures { result ≡ is_among word.now (flat_map entry_levels self.now) }
     {
         self.levels.contains(word)
+    }
+
+    /// Whether a symbol, or the name of a level, is this word.
+    #[tactic(auto, using(crate::proofs::Sharing::taken_is))]
+    pub(crate) fn has_name(&self, word: &[u8]) -> bool
+        ensures { result ≡ is_among word.now (taken_names self.now) }
+    {
+        self.has_symbol(word) || self.has_level(word)
     }
 
     /// Whether an integer field has this name in files.

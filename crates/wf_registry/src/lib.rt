@@ -4,10 +4,16 @@
 //! names that nothing declares are looked for last.
 #![tactic(auto)]
 
+mod axes;
 mod declared;
 mod dimspec;
 mod error;
+mod exchange;
 mod indexing;
+mod line;
 mod names;
+mod package;
+mod rconfig;
+mod state;
 
 pub use error::RegistryError;
