@@ -42,7 +42,7 @@ axes_along a b xs h = record {
   known = λ c. list_any-append (is_entry dimspecs (c ∷ [])) a xs ∙ ap (λ t. t || is_known xs c) (h.known c) ∙ sym (list_any-append (is_entry dimspecs (c ∷ [])) b xs);
   axes = λ c. ap axis (find-append (is_entry dimspecs (c ∷ [])) a xs)
       ∙ axis-or (find_entry dimspecs (c ∷ []) a) (find_entry dimspecs (c ∷ []) b) (find_entry dimspecs (c ∷ []) xs)
-          (is_some-find (is_entry dimspecs (c ∷ [])) a ∙ h.known c ∙ sym (is_some-find (is_entry dimspecs (c ∷ [])) b)) (h.axes c)
+      (is_some-find (is_entry dimspecs (c ∷ [])) a ∙ h.known c ∙ sym (is_some-find (is_entry dimspecs (c ∷ [])) b)) (h.axes c)
       ∙ sym (ap axis (find-append (is_entry dimspecs (c ∷ [])) b xs));
 }
 
@@ -116,7 +116,7 @@ pub dimspec_added : (axes old : List Entry) (words cols : List Text) (a b : ℕ)
 dimspec_added axes old words cols a b kind behind enough first third h =
     subst (λ (k : Kind). HasAxesOf axes (old ++ option_to_list (if nat_le (least_columns k) (length (columns words)) then entry_of_kind k (columns words) else None))) kind
     (subst (λ (cs : List Text). HasAxesOf axes (old ++ option_to_list (if nat_le 5 (length cs) then entry_of_kind dimspecs cs else None))) behind
-      (dimspec_line axes old cols enough (subst (λ n. HasAxesOf axes (old ++ bare_dimspec n (only_byte (column cols 3)) ∷ [])) first (subst (λ n. HasAxesOf axes (old ++ bare_dimspec a n ∷ [])) third h))))
+    (dimspec_line axes old cols enough (subst (λ n. HasAxesOf axes (old ++ bare_dimspec n (only_byte (column cols 3)) ∷ [])) first (subst (λ n. HasAxesOf axes (old ++ bare_dimspec a n ∷ [])) third h))))
 
 pub short_added : (old : List Entry) (words cols : List Text) → dimspecs ≡ word_kind words → cols ≡ columns words → nat_le 5 (length cols) ≡ false → HasAxesOf old (old ++ option_to_list (words_entry words))
 short_added old words cols kind behind few =
@@ -160,9 +160,9 @@ axes_more old new lines i l here is so_far added =
     let e : List Entry = option_to_list (words_entry (word_texts l.words)) in
     let both : HasAxesOf new (lines_entries (take i lines) ++ e) = axes_chain new (old ++ e) _ added (axes_along old (lines_entries (take i lines)) e so_far) in
     let same : lines_entries (take i lines) ++ e ≡ lines_entries (take (i + 1) lines) =
-        ap (λ xs. lines_entries (take i lines) ++ xs) (sym (filter_map-one (λ (x : KeptLine). words_entry (word_texts x.words)) l))
-        ∙ sym (filter_map-append (λ (x : KeptLine). words_entry (word_texts x.words)) (take i lines) (l ∷ []))
-        ∙ ap lines_entries (ap (λ x. take i lines ++ x ∷ []) is ∙ sym (take_more lines i l here)) in
+    ap (λ xs. lines_entries (take i lines) ++ xs) (sym (filter_map-one (λ (x : KeptLine). words_entry (word_texts x.words)) l))
+    ∙ sym (filter_map-append (λ (x : KeptLine). words_entry (word_texts x.words)) (take i lines) (l ∷ []))
+    ∙ ap lines_entries (ap (λ x. take i lines ++ x ∷ []) is ∙ sym (take_more lines i l here)) in
     subst (HasAxesOf new) same both
 
 pub few_columns : (words : List Word) → length words < 5 → nat_le 5 (length (word_texts words)) ≡ false

@@ -39,6 +39,7 @@ inserted ks k w = by (list_any (λ (x : Vec ℕ). bytes_eq k.items x.items) ks) 
   where
     same : bytes_eq w k.items ≡ true → list_any (λ (x : Vec ℕ). bytes_eq k.items x.items) ks ≡ true → is_among w (texts ks) ≡ true
     same e there = ap (λ v. is_among v (texts ks)) ((bytes_eq-Decides w k.items).0 e) ∙ sym (among-texts k.items ks) ∙ there
+
     by : (t : Bool) → list_any (λ (x : Vec ℕ). bytes_eq k.items x.items) ks ≡ t
         → is_among w (texts (if t then ks else ks ++ k ∷ [])) ≡ (is_among w (texts ks) || is_among w (k.items ∷ []))
     by true there = covered (is_among w (texts ks)) (bytes_eq w k.items) (λ e. same e there)

@@ -64,8 +64,8 @@ integer-step es (Rconfig kind symbol how entries default) w rcs known = by (byte
         same-name (find_entry rconfigs w es) (is_integer kind) (is_among symbol rcs) w symbol (Rconfig kind symbol how entries default) same
         (ap (λ v. is_among v rcs) (sym ((bytes_eq-Decides w symbol).0 same)) ∙ known w) refl
         ∙ ap (λ (o : Option Entry). is_integer (type_word o))
-            (ap (λ (b : Bool). option_or (find_entry rconfigs w es) (cond b (Some (Rconfig kind symbol how entries default)) None)) (sym same)
-            ∙ sym (find-append (is_entry rconfigs w) es (Rconfig kind symbol how entries default ∷ [])))
+        (ap (λ (b : Bool). option_or (find_entry rconfigs w es) (cond b (Some (Rconfig kind symbol how entries default)) None)) (sym same)
+        ∙ sym (find-append (is_entry rconfigs w) es (Rconfig kind symbol how entries default ∷ [])))
 
 pub integers_more : (old new rcs : List Text) (es : List Entry) (e : Entry) → ((w : Text) → is_among w old ≡ is_integer_rconfig es w) → SameNames rcs (flat_map (names_of rconfigs) es)
     → Adds old new (integer_names rcs e) → (w : Text) → is_among w new ≡ is_integer_rconfig (es ++ e ∷ []) w

@@ -3,3 +3,4 @@ pub mod IndexLemmas
 pub mod IntegerLemmas
 pub mod NamesInLower
 pub mod Sharing
+pub mod JudgedLemmas

@@ -5,35 +5,16 @@ ghost use Rattle.wf_model.specs.Letters.{is_among};
 ghost use Rattle.wf_model.specs.Entries.{declares, dimspecs, rconfigs, packages, halos, periods, entry_datasets, entry_levels, entry_symbol, entry_variables, is_integer_rconfig};
 ghost use Rattle.wf_model.specs.Judging.{taken_names};
 
-use crate::indexing::{
-    add_datasets, add_dimspec, add_halo, add_integer, add_levels, add_package, add_period,
-    add_rconfig, add_symbol, add_variables,
-};
-use crate::names::Names;
+use crate::indexing::{FieldIndex, KindIndex};
 use std::alloc::{AllocError, Global};
 use std::marker::Model;
 use wf_model::Entry;
 
 /// Entries in order, with an index for each sort of name that they declare. Contracts see the list of the entries.
-#[derive(Drop)]
 pub(crate) struct Declared {
     entries: Vec<Entry>,
-    /// Letters of dimspecs.
-    dimspecs: Names,
-    rconfigs: Names,
-    /// Rconfigs whose first entry is of type integer.
-    integers: Names,
-    packages: Names,
-    halos: Names,
-    periods: Names,
-    /// Symbols of fields.
-    symbols: Names,
-    /// Names of the levels of fields.
-    levels: Names,
-    /// Names of integer fields in files.
-    variables: Names,
-    /// Names of dimensions in files.
-    datasets: Names,
+    kinds: KindIndex,
+    fields: FieldIndex,
 }
 
 impl Model for Declared {
@@ -45,7 +26,17 @@ impl Model for Declared {
 
     ghost view = { λ it. it.entries.items };
 
-    ghost invariant = { λ it. IsIndexed it.entries.items it.dimspecs it.rconfigs it.integers it.packages it.halos it.periods it.symbols it.levels it.variables it.datasets };
+    ghost invariant = { λ it. IsIndexed it.entries.items it.kinds.dimspecs it.kinds.rconfigs it.kinds.integers it.kinds.packages it.kinds.halos it.kinds.periods it.fields.symbols it.fields.levels it.fields.variables it.fields.datasets };
+}
+
+impl Drop for Declared {
+    fn drop(self) {
+        let Declared {
+            entries: _entries,
+            kinds: _kinds,
+            fields: _fields,
+        } = self;
+    }
 }
 
 impl Declared {
@@ -55,16 +46,8 @@ impl Declared {
     {
         Declared {
             entries: Vec::new(alloc),
-            dimspecs: Names::new(alloc),
-            rconfigs: Names::new(alloc),
-            integers: Names::new(alloc),
-            packages: Names::new(alloc),
-            halos: Names::new(alloc),
-            periods: Names::new(alloc),
-            symbols: Names::new(alloc),
-            levels: Names::new(alloc),
-            variables: Names::new(alloc),
-            datasets: Names::new(alloc),
+            kinds: KindIndex::new(alloc),
+            fields: FieldIndex::new(alloc),
         }
     }
 
@@ -74,40 +57,16 @@ impl Declared {
     {
         let Declared {
             mut entries,
-            mut dimspecs,
-            mut rconfigs,
-            mut integers,
-            mut packages,
-            mut halos,
-            mut periods,
-            mut symbols,
-            mut levels,
-            mut variables,
-            mut datasets,
+            mut kinds,
+            mut fields,
         } = self;
-        add_dimspec(alloc, &mut dimspecs, &entry)?;
-        add_integer(alloc, &mut integers, &rconfigs, &entry)?;
-        add_rconfig(alloc, &mut rconfigs, &entry)?;
-        add_package(alloc, &mut packages, &entry)?;
-        add_halo(alloc, &mut halos, &entry)?;
-        add_period(alloc, &mut periods, &entry)?;
-        add_symbol(alloc, &mut symbols, &entry)?;
-        add_levels(alloc, &mut levels, &entry)?;
-        add_variables(alloc, &mut variables, &entry)?;
-        add_datasets(alloc, &mut datasets, &entry)?;
+        kinds.add(alloc, &entry)?;
+        fields.add(alloc, &entry)?;
         entries.push(entry)?;
         Ok(Declared {
             entries,
-            dimspecs,
-            rconfigs,
-            integers,
-            packages,
-            halos,
-            periods,
-            symbols,
-            levels,
-            variables,
-            datasets,
+            kinds,
+            fields,
         })
     }
 
@@ -118,12 +77,24 @@ impl Declared {
         self.entries.as_slice()
     }
 
+    /// The entries, in order, without their indexes.
+    pub(crate) fn into_entries(self) -> Vec<Entry>
+        ensures { result.items ≡ self }
+    {
+        let Declared {
+            entries,
+            kinds: _kinds,
+            fields: _fields,
+        } = self;
+        entries
+    }
+
     /// Whether a dimspec has this letter.
     #[tactic(auto, using(crate::proofs::IndexLemmas::declares_is))]
     pub(crate) fn has_dimspec(&self, letter: &[u8]) -> bool
         ensures { result ≡ declares dimspecs letter.now self.now }
     {
-        self.dimspecs.contains(letter)
+        self.kinds.dimspecs.contains(letter)
     }
 
     /// Whether an rconfig has this name.
@@ -131,14 +102,14 @@ impl Declared {
     pub(crate) fn has_rconfig(&self, name: &[u8]) -> bool
         ensures { result ≡ declares rconfigs name.now self.now }
     {
-        self.rconfigs.contains(name)
+        self.kinds.rconfigs.contains(name)
     }
 
     /// Whether the first rconfig of this name is of type integer.
     pub(crate) fn has_integer_rconfig(&self, name: &[u8]) -> bool
         ensures { result ≡ is_integer_rconfig self.now name.now }
     {
-        self.integers.contains(name)
+        self.kinds.integers.contains(name)
     }
 
     /// Whether a package has this name.
@@ -146,7 +117,7 @@ impl Declared {
     pub(crate) fn has_package(&self, name: &[u8]) -> bool
         ensures { result ≡ declares packages name.now self.now }
     {
-        self.packages.contains(name)
+        self.kinds.packages.contains(name)
     }
 
     /// Whether a halo has this name.
@@ -154,7 +125,7 @@ impl Declared {
     pub(crate) fn has_halo(&self, name: &[u8]) -> bool
         ensures { result ≡ declares halos name.now self.now }
     {
-        self.halos.contains(name)
+        self.kinds.halos.contains(name)
     }
 
     /// Whether a period has this name.
@@ -162,21 +133,21 @@ impl Declared {
     pub(crate) fn has_period(&self, name: &[u8]) -> bool
         ensures { result ≡ declares periods name.now self.now }
     {
-        self.periods.contains(name)
+        self.kinds.periods.contains(name)
     }
 
     /// Whether a field has this symbol.
     pub(crate) fn has_symbol(&self, word: &[u8]) -> bool
         ensures { result ≡ is_among word.now (flat_map entry_symbol self.now) }
     {
-        self.symbols.contains(word)
+        self.fields.symbols.contains(word)
     }
 
     /// Whether a level of a field has this name.
     pub(crate) fn has_level(&self, word: &[u8]) -> bool
         ensures { result ≡ is_among word.now (flat_map entry_levels self.now) }
     {
-        self.levels.contains(word)
+        self.fields.levels.contains(word)
     }
 
     /// Whether a symbol, or the name of a level, is this word.
@@ -191,13 +162,13 @@ impl Declared {
     pub(crate) fn has_variable(&self, word: &[u8]) -> bool
         ensures { result ≡ is_among word.now (flat_map entry_variables self.now) }
     {
-        self.variables.contains(word)
+        self.fields.variables.contains(word)
     }
 
     /// Whether a dimension has this name in files.
     pub(crate) fn has_dataset(&self, word: &[u8]) -> bool
         ensures { result ≡ is_among word.now (flat_map entry_datasets self.now) }
     {
-        self.datasets.contains(word)
+        self.fields.datasets.contains(word)
     }
 }

@@ -10,6 +10,7 @@ mod dimspec;
 mod error;
 mod exchange;
 mod indexing;
+mod judging;
 mod line;
 mod names;
 mod package;

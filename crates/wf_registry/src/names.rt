@@ -10,7 +10,6 @@ use std::alloc::{AllocError, Global};
 use std::marker::Model;
 
 /// Names, each once, which contracts see as the list of them.
-#[derive(Drop)]
 pub(crate) struct Names {
     names: IndexSet<Vec<u8>>,
 }
@@ -22,6 +21,12 @@ impl Model for Names {
     ghost Value = { Items (Items ℕ) };
 
     ghost view = { λ it. texts it.names.keys };
+}
+
+impl Drop for Names {
+    fn drop(self) {
+        let Names { names: _names } = self;
+    }
 }
 
 impl Names {

@@ -10,14 +10,14 @@ invariant_of-result c =
     let e = c.args.entry in
     let was = c.self.invariant in
     rw c.in_ok-push.ensures.items (record {
-      dimspecs = indexes_more (names_of dimspecs) _ _ es e was.dimspecs c.in_ok-add_dimspec.ensures;
-      rconfigs = indexes_more (names_of rconfigs) _ _ es e was.rconfigs c.in_ok-add_rconfig.ensures;
-      integers = integers_more _ _ c.self.inside.rconfigs es e was.integers was.rconfigs c.in_ok-add_integer.ensures;
-      packages = indexes_more (names_of packages) _ _ es e was.packages c.in_ok-add_package.ensures;
-      halos = indexes_more (names_of halos) _ _ es e was.halos c.in_ok-add_halo.ensures;
-      periods = indexes_more (names_of periods) _ _ es e was.periods c.in_ok-add_period.ensures;
-      symbols = indexes_more entry_symbol _ _ es e was.symbols c.in_ok-add_symbol.ensures;
-      levels = indexes_more entry_levels _ _ es e was.levels c.in_ok-add_levels.ensures;
-      variables = indexes_more entry_variables _ _ es e was.variables c.in_ok-add_variables.ensures;
-      datasets = indexes_more entry_datasets _ _ es e was.datasets c.in_ok-add_datasets.ensures;
+      dimspecs = indexes_more (names_of dimspecs) _ _ es e was.dimspecs c.in_ok-add.ensures.dimspecs;
+      rconfigs = indexes_more (names_of rconfigs) _ _ es e was.rconfigs c.in_ok-add.ensures.rconfigs;
+      integers = integers_more _ _ c.self.inside.kinds.rconfigs es e was.integers was.rconfigs c.in_ok-add.ensures.integers;
+      packages = indexes_more (names_of packages) _ _ es e was.packages c.in_ok-add.ensures.packages;
+      halos = indexes_more (names_of halos) _ _ es e was.halos c.in_ok-add.ensures.halos;
+      periods = indexes_more (names_of periods) _ _ es e was.periods c.in_ok-add.ensures.periods;
+      symbols = indexes_more entry_symbol _ _ es e was.symbols c.in_ok-add-2.ensures.symbols;
+      levels = indexes_more entry_levels _ _ es e was.levels c.in_ok-add-2.ensures.levels;
+      variables = indexes_more entry_variables _ _ es e was.variables c.in_ok-add-2.ensures.variables;
+      datasets = indexes_more entry_datasets _ _ es e was.datasets c.in_ok-add-2.ensures.datasets;
     })
