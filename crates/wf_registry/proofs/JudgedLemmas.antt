@@ -4,6 +4,7 @@ use Rattle.std.specs.Prelude.{nat_lt, nat_le, not, filter_map, if◌then◌else�
 use Rattle.std.specs.Option.{option_or, option_map, option_to_list}
 use Rattle.std.proofs.lemmas.List.{append-nil}
 use Rattle.std.proofs.lemmas.Bool.Decides.{nat_tests}
+use Rattle.std.proofs.lemmas.Grind.{common_steps}
 use Rattle.wf_model.specs.declared.registry.Entry.{Entry}
 use Rattle.wf_model.specs.declared.registry.RegistryFault.{RegistryFault}
 use Rattle.wf_model.specs.declared.registry.RegistryKind.{RegistryKind}
@@ -15,7 +16,7 @@ use Rattle.wf_model.specs.Entries.{Kind, dimspecs, states, rconfigs, packages, h
 use Rattle.wf_model.specs.Judging.{column_faults, line_fault}
 use Rattle.wf_model.specs.Registry.{broken_line, fault_at}
 use Rattle.wf_registry.specs.Lines.{column_entry, line_entry, word_kind}
-use Rattle.wf_registry.specs.Judged.{line_judged, lines_judged}
+use Rattle.wf_registry.specs.Judged.{lines_judged}
 
 -- ---- a line
 
@@ -111,7 +112,7 @@ one_ok all before l ls es e is rest =
     }
   where
     filter_map-cons : (x : Kept) (xs : List Kept) (y : Entry) → entry_of x ≡ Some y → filter_map entry_of (x ∷ xs) ≡ y ∷ filter_map entry_of xs
-    filter_map-cons x xs y here = ?
+    filter_map-cons x xs y here = grind (arith, common_steps)
 
 pub judged_ok : (all before : List Entry) (ls : List Kept) (es : List Entry) → lines_judged all before ls ≡ Ok es → AreJudged all before ls es
 unfolding lines_judged entries_of
@@ -121,8 +122,23 @@ judged_ok all before [] es is =
 judged_ok all before (l ∷ ls) es is = by (line_entry all before l.words) refl (λ e. judged_ok all (before ++ e ∷ []) ls es)
   where
     by : (r : Result Entry RegistryKind) → line_entry all before l.words ≡ r → ((e : Entry) → lines_judged all (before ++ e ∷ []) ls ≡ Ok es → AreJudged all (before ++ e ∷ []) ls es) → AreJudged all before (l ∷ ls) es
-    by (Ok e) here rest = one_ok all before l ls es e here (rest e (sym (ap (λ (r : Result Entry RegistryKind). told_as (fault_at l) r >>= (λ x. Ok (before ++ x ∷ [])) >>= (λ xs. lines_judged all xs ls)) here) ∙ is))
-    by (Err k) here rest = absurd (ok_err (sym (ap (λ (r : Result Entry RegistryKind). told_as (fault_at l) r >>= (λ x. Ok (before ++ x ∷ [])) >>= (λ xs. lines_judged all xs ls)) here) ∙ is))
+    by (Ok e) here rest = one_ok all before l ls es e here (rest e (sym (ap (λ (r : Result Entry RegistryKind). told_as (fault_at l) (r >>= (λ x. Ok (before ++ x ∷ []))) >>= (λ xs. lines_judged all xs ls)) here) ∙ is))
+    by (Err k) here rest = absurd (ok_err (sym (ap (λ (r : Result Entry RegistryKind). told_as (fault_at l) (r >>= (λ x. Ok (before ++ x ∷ []))) >>= (λ xs. lines_judged all xs ls)) here) ∙ is))
 
     ok_err : {f : RegistryFault} {xs : List Entry} → (let r : Result (List Entry) RegistryFault = Err f in r) ≡ Ok xs → ⊥
     ok_err e = cc
+
+pub judged_err : (all before : List Entry) (ls : List Kept) (f : RegistryFault) → lines_judged all before ls ≡ Err f → broken_line all before ls ≡ Some f
+unfolding lines_judged
+judged_err all before [] f is = cc
+judged_err all before (l ∷ ls) f is = by (line_entry all before l.words) refl (λ e. judged_err all (before ++ e ∷ []) ls f)
+  where
+    by : (r : Result Entry RegistryKind) → line_entry all before l.words ≡ r → ((e : Entry) → lines_judged all (before ++ e ∷ []) ls ≡ Err f → broken_line all (before ++ e ∷ []) ls ≡ Some f) → broken_line all before (l ∷ ls) ≡ Some f
+    by (Ok e) here rest =
+        let j = line_ok all before l e here in
+        ap₂ (λ (g : Option RegistryKind) (o : Option Entry). option_or (option_map (fault_at l) g) (broken_line all (before ++ option_to_list o) ls)) j.sound j.entry
+        ∙ rest e (sym (ap (λ (r : Result Entry RegistryKind). told_as (fault_at l) (r >>= (λ x. Ok (before ++ x ∷ []))) >>= (λ xs. lines_judged all xs ls)) here) ∙ is)
+    by (Err k) here rest =
+        let told : (let r : Result (List Entry) RegistryFault = Err (fault_at l k) in r) ≡ Err f = sym (ap (λ (r : Result Entry RegistryKind). told_as (fault_at l) (r >>= (λ x. Ok (before ++ x ∷ []))) >>= (λ xs. lines_judged all xs ls)) here) ∙ is in
+        let same : fault_at l k ≡ f = cc in
+        ap (λ (g : Option RegistryKind). option_or (option_map (fault_at l) g) (broken_line all (before ++ option_to_list (entry_of l)) ls)) (line_err all before l k here) ∙ ap (λ (x : RegistryFault). Some x) same

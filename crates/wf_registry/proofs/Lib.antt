@@ -1,6 +1,9 @@
 pub mod AxisGathering
 pub mod IndexLemmas
 pub mod IntegerLemmas
-pub mod NamesInLower
-pub mod Sharing
 pub mod JudgedLemmas
+pub mod JudgedLoop
+pub mod NamesInLower
+pub mod Registries
+pub mod SameLetters
+pub mod Sharing

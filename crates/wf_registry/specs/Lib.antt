@@ -5,3 +5,5 @@ pub mod Lines
 pub mod Judged
 pub mod LineEntries
 pub mod RegistryErrors
+pub mod Sorts
+pub mod Unknown

@@ -5,6 +5,7 @@
 #![tactic(auto)]
 
 mod axes;
+mod built_ins;
 mod declared;
 mod dimspec;
 mod error;
@@ -15,6 +16,9 @@ mod line;
 mod names;
 mod package;
 mod rconfig;
+mod registry;
 mod state;
+mod unknown;
 
 pub use error::RegistryError;
+pub use registry::read_registry;
