@@ -114,6 +114,9 @@ one_ok all before l ls es e is rest =
     filter_map-cons : (x : Kept) (xs : List Kept) (y : Entry) → entry_of x ≡ Some y → filter_map entry_of (x ∷ xs) ≡ y ∷ filter_map entry_of xs
     filter_map-cons x xs y here = grind (arith, common_steps)
 
+err_ok : (f : RegistryFault) (xs : List Entry) → (let r : Result (List Entry) RegistryFault = Err f in r) ≡ Ok xs → ⊥
+err_ok f xs e = cc
+
 pub judged_ok : (all before : List Entry) (ls : List Kept) (es : List Entry) → lines_judged all before ls ≡ Ok es → AreJudged all before ls es
 unfolding lines_judged entries_of
 judged_ok all before [] es is =
@@ -123,10 +126,8 @@ judged_ok all before (l ∷ ls) es is = by (line_entry all before l.words) refl 
   where
     by : (r : Result Entry RegistryKind) → line_entry all before l.words ≡ r → ((e : Entry) → lines_judged all (before ++ e ∷ []) ls ≡ Ok es → AreJudged all (before ++ e ∷ []) ls es) → AreJudged all before (l ∷ ls) es
     by (Ok e) here rest = one_ok all before l ls es e here (rest e (sym (ap (λ (r : Result Entry RegistryKind). told_as (fault_at l) (r >>= (λ x. Ok (before ++ x ∷ []))) >>= (λ xs. lines_judged all xs ls)) here) ∙ is))
-    by (Err k) here rest = absurd (ok_err (sym (ap (λ (r : Result Entry RegistryKind). told_as (fault_at l) (r >>= (λ x. Ok (before ++ x ∷ []))) >>= (λ xs. lines_judged all xs ls)) here) ∙ is))
+    by (Err k) here rest = absurd (err_ok (fault_at l k) es (sym (ap (λ (r : Result Entry RegistryKind). told_as (fault_at l) (r >>= (λ x. Ok (before ++ x ∷ []))) >>= (λ xs. lines_judged all xs ls)) here) ∙ is))
 
-    ok_err : {f : RegistryFault} {xs : List Entry} → (let r : Result (List Entry) RegistryFault = Err f in r) ≡ Ok xs → ⊥
-    ok_err e = cc
 
 pub judged_err : (all before : List Entry) (ls : List Kept) (f : RegistryFault) → lines_judged all before ls ≡ Err f → broken_line all before ls ≡ Some f
 unfolding lines_judged

@@ -1,4 +1,5 @@
 pub mod AxisGathering
+pub mod BuiltInNames
 pub mod IndexLemmas
 pub mod IntegerLemmas
 pub mod JudgedLemmas

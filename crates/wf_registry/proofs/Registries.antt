@@ -10,7 +10,7 @@ use Rattle.wf_model.specs.declared.registry.Registry.{Registry}
 use Rattle.wf_model.specs.declared.registry.RegistryFault.{RegistryFault}
 use Rattle.wf_model.specs.declared.registry.RegistryKind.{RegistryKind}
 use Rattle.wf_model.specs.declared.registry.RegistryKind.TheVariants.{UnknownName}
-use Rattle.wf_model.specs.Reading.{unless_fault}
+use Rattle.wf_model.specs.Reading.{Fails, unless_fault}
 use Rattle.wf_model.specs.KeptLines.{Kept, Defines, registry_lines}
 use Rattle.wf_model.specs.Entries.{entry_of, entries_of}
 use Rattle.wf_model.specs.Registry.{broken_line, fault_at, has_unknown, met_of, names_known, refusal, registry_of, stop_of, unknown_name}
@@ -104,10 +104,6 @@ length-each [] (e ∷ es) same = cc
 length-each (l ∷ ls) [] same = cc
 length-each (l ∷ ls) (e ∷ es) same = ap suc (length-each ls es (heads (entry_of l) (Some e) (map entry_of ls) (map (λ x. Some x) es) same).1)
 
--- as many entries as lines
-pub as_many : (all : List Entry) (files : List SourceFile) (lines : List KeptLine) (es : List Entry) → lines_judged all [] (map (kept_in files) lines) ≡ Ok es → length es ≡ length lines
-as_many all files lines es judged = length-each (map (kept_in files) lines) es (judged_ok all [] (map (kept_in files) lines) es judged).each ∙ length-map lines (kept_in files)
-
 -- the entries behind none are the entries
 same_entries : (all : List Entry) (ls : List Kept) (es : List Entry) → AreJudged all [] ls es → entries_of ls ≡ es
 same_entries all ls es j = j.entries ∙ sym j.behind
@@ -115,16 +111,20 @@ same_entries all ls es j = j.entries ∙ sym j.behind
 each_same : (all : List Entry) (ls : List Kept) (es : List Entry) → AreJudged all [] ls es → map entry_of ls ≡ map (λ e. Some e) es
 each_same all ls es j = j.each ∙ ap (map (λ (e : Entry). Some e)) (sym j.behind)
 
+-- as many entries as lines
+pub as_many : (all : List Entry) (files : List SourceFile) (lines : List KeptLine) (es : List Entry) → lines_judged all [] (map (kept_in files) lines) ≡ Ok es → length es ≡ length lines
+as_many all files lines es judged = length-each (map (kept_in files) lines) es (each_same all (map (kept_in files) lines) es (judged_ok all [] (map (kept_in files) lines) es judged)) ∙ length-map lines (kept_in files)
+
 pub unnamed : (all : List Entry) (files : List SourceFile) (lines : List KeptLine) (es : List Entry) (at : ℕ) (l : KeptLine) → HasAxesOf all (entries_of (map (kept_in files) lines))
-    → lines_judged all [] (map (kept_in files) lines) ≡ Ok es → IsFirstUnknown es es at → l ≡ get_or lines at l
-    → refusal (map (kept_in files) lines) None ≡ Some (fault_at (kept_in files l) UnknownName)
-unnamed all files lines es at l axes judged first is =
+    → lines_judged all [] (map (kept_in files) lines) ≡ Ok es → IsFirstUnknown es es at
+    → refusal (map (kept_in files) lines) None ≡ Some (fault_at (kept_in files (get_or lines at l)) UnknownName)
+unnamed all files lines es at l axes judged first =
     let ls = map (kept_in files) lines in
     let j = judged_ok all [] ls es judged in
     none_broken all ls None es axes j
     ∙ ap (λ (o : Option Kept). option_map (λ x. fault_at x UnknownName) o)
         (ap (λ xs. find (has_unknown xs) ls) (same_entries all ls es j) ∙ find_first es ls es at (kept_in files l) (each_same all ls es j) first
-        ∙ ap (λ (x : Kept). Some x) (get-map (kept_in files) lines at l ∙ ap (kept_in files) (sym is)))
+        ∙ ap (λ (x : Kept). Some x) (get-map (kept_in files) lines at l))
 
 pub accepted : (all : List Entry) (files : List SourceFile) (lines : List KeptLine) (es : List Entry) → HasAxesOf all (entries_of (map (kept_in files) lines))
     → lines_judged all [] (map (kept_in files) lines) ≡ Ok es → AreKnownBelow es es (length es) → refusal (map (kept_in files) lines) None ≡ None
@@ -152,3 +152,35 @@ gathered all files lines h = subst (HasAxesOf all) (sym (mapped lines)) h
   where
     mapped : (xs : List KeptLine) → filter_map entry_of (map (kept_in files) xs) ≡ lines_entries xs
     mapped xs = filter_map-map entry_of (kept_in files) xs
+
+-- ---- the answer, by what was read
+
+pub record IsRead (files : List SourceFile) (defines : Defines) (lines : List KeptLine) (end : Option RegistryFault) (all : List Entry) : Type 0 where
+  pub lines_are : map (kept_in files) lines ≡ (met_of (registry_lines files defines)).kept
+  pub end_is : end ≡ stop_of (registry_lines files defines)
+  pub letters : HasAxesOf all (lines_entries lines)
+
+module _ (files : List SourceFile) (defines : Defines) (lines : List KeptLine) (end : Option RegistryFault) (all : List Entry) (r : IsRead files defines lines end all) where
+  refused_is : (f : RegistryFault) → refusal (map (kept_in files) lines) end ≡ Some f → registry_of files defines ≡ Err f
+  refused_is f is = registry_is files defines (map (kept_in files) lines) end r.lines_are r.end_is
+      ∙ ap (λ (o : Option RegistryFault). unless_fault o (record { entries = entries_of (map (kept_in files) lines) })) is
+
+  pub registry_broken : (told : Option RegistryFault) → Fails told (lines_judged all [] (map (kept_in files) lines)) → Fails told (registry_of files defines)
+  registry_broken None fails = tt
+  registry_broken (Some f) fails = refused_is f (broken all (map (kept_in files) lines) end f (gathered all files lines r.letters) fails)
+
+  pub registry_stopped : (f : RegistryFault) (es : List Entry) → end ≡ Some f → lines_judged all [] (map (kept_in files) lines) ≡ Ok es → registry_of files defines ≡ Err f
+  registry_stopped f es is judged = refused_is f (ap (refusal (map (kept_in files) lines)) is ∙ stopped all (map (kept_in files) lines) f es (gathered all files lines r.letters) judged)
+
+  pub registry_unnamed : (es : List Entry) (at : ℕ) (l : KeptLine) (f : RegistryFault) → end ≡ None → lines_judged all [] (map (kept_in files) lines) ≡ Ok es → IsFirstUnknown es es at
+      → f ≡ fault_at (kept_in files (get_or lines at l)) UnknownName → registry_of files defines ≡ Err f
+  registry_unnamed es at l f is judged first told =
+      refused_is f (ap (refusal (map (kept_in files) lines)) is ∙ unnamed all files lines es at l (gathered all files lines r.letters) judged first ∙ ap (λ (x : RegistryFault). Some x) (sym told))
+
+  pub registry_accepted : (es : List Entry) → end ≡ None → lines_judged all [] (map (kept_in files) lines) ≡ Ok es → AreKnownBelow es es (length es)
+      → registry_of files defines ≡ Ok (record { entries = es })
+  registry_accepted es is judged known =
+      registry_is files defines (map (kept_in files) lines) end r.lines_are r.end_is
+      ∙ ap₂ (λ (o : Option RegistryFault) (xs : List Entry). let q : Result Registry RegistryFault = unless_fault o (record { entries = xs }) in q)
+          (ap (refusal (map (kept_in files) lines)) is ∙ accepted all files lines es (gathered all files lines r.letters) judged known)
+          (entries_are all (map (kept_in files) lines) es judged)
