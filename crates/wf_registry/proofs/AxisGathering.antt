@@ -1,7 +1,6 @@
 -- Letters and axes, gathered line by line.
-use Rattle.std.proofs.Common.{◌≡◌, ◌∙◌, sym, ap, ap₂, refl, ℕ, ◌+◌, ◌<◌, ◌≤◌, Bool, true, false, cond, List, [], ◌∷◌, ◌++◌, take, length, get_or, Option, Some, None, subst, arith, ◌⊎◌, inl, inr}
-use Rattle.std.specs.Prelude.{◌||◌, nat_le, find, filter_map, is_some, if◌then◌else◌}
-use Rattle.std.specs.List.{list_any}
+use Rattle.std.proofs.Common.{◌≡◌, ◌∙◌, sym, ap, refl, ℕ, ◌+◌, ◌<◌, ◌≤◌, Bool, true, false, cond, List, [], ◌∷◌, ◌++◌, take, length, get_or, Option, Some, None, subst, arith, ◌⊎◌, inl, inr}
+use Rattle.std.specs.Prelude.{◌||◌, nat_le, filter_map, is_some, if◌then◌else◌}
 use Rattle.std.specs.Option.{option_or, option_to_list}
 use Rattle.std.proofs.lemmas.List.{take_more, append-nil, length-map}
 use Rattle.std.proofs.lemmas.Bool.Decides.{nat_tests}
@@ -19,7 +18,7 @@ use Rattle.wf_registry_columns.specs.Words.{word_texts}
 use Rattle.wf_registry_columns.specs.Kinds.{kind_seen}
 use Rattle.wf_registry_columns.specs.declared.kinds.LineKind.{LineKind}
 use Rattle.wf_registry_columns.specs.declared.kinds.LineKind.TheVariants as line
-use Rattle.wf_registry_columns.proofs.AxisLemmas.{is_some-find, option_or-none}
+use Rattle.wf_registry_columns.proofs.AxisLemmas.{is_some-find}
 use Rattle.wf_registry_lines.specs.declared.KeptLine.{KeptLine}
 use Rattle.wf_model.specs.KeptLines.{columns}
 use Rattle.wf_registry.specs.Lines.{word_kind}

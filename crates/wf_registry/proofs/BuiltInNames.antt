@@ -1,6 +1,6 @@
 -- The names of the rules that need no entry, as one text.
-use Rattle.std.proofs.Common.{◌≡◌, ◌∙◌, sym, ap, refl, ℕ, Bool, List, [], ◌∷◌, map}
-use Rattle.std.specs.Prelude.{◌==◌, ◌||◌, codes, is_some, find}
+use Rattle.std.proofs.Common.{◌≡◌, ◌∙◌, sym, ap, refl, List, [], ◌∷◌, map}
+use Rattle.std.specs.Prelude.{◌==◌, ◌||◌, codes}
 use Rattle.std.specs.List.{list_any, slice_split}
 use Rattle.std.specs.Str.{bytes_eq}
 use Rattle.wf_model.specs.Letters.{Text}

@@ -1,5 +1,5 @@
 -- Rconfigs of type integer, one entry more.
-use Rattle.std.proofs.Common.{◌≡◌, ◌∙◌, sym, ap, ap₂, refl, ℕ, Bool, true, false, cond, List, [], ◌∷◌, ◌++◌, Option, Some, None}
+use Rattle.std.proofs.Common.{◌≡◌, ◌∙◌, sym, ap, refl, Bool, true, false, cond, List, [], ◌∷◌, ◌++◌, Option, Some, None}
 use Rattle.std.specs.Prelude.{◌||◌, ◌&&◌, not, find, flat_map, is_some, if◌then◌else◌}
 use Rattle.std.specs.Option.{option_or}
 use Rattle.std.specs.Str.{bytes_eq}
@@ -12,7 +12,7 @@ use Rattle.wf_model.specs.Entries.{rconfigs, find_entry, is_entry, is_integer, i
 use Rattle.wf_registry_columns.proofs.AxisLemmas.{is_some-find, option_or-none}
 use Rattle.wf_registry.specs.Adding.{Adds}
 use Rattle.wf_registry.specs.Indexing.{SameNames, integer_names, names_of}
-use Rattle.wf_registry.proofs.IndexLemmas.{declares_is, or-false}
+use Rattle.wf_registry.proofs.IndexLemmas.{declares_is}
 
 -- the word is another one
 not-among : (u : Bool) (w symbol : Text) → bytes_eq w symbol ≡ false → is_among w (if u then symbol ∷ [] else []) ≡ false

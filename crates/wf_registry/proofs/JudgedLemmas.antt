@@ -12,7 +12,7 @@ use Rattle.wf_model.specs.declared.registry.RegistryKind.TheVariants.{Columns, U
 use Rattle.wf_model.specs.Reading.{◌>>=◌, fault_if, first_fault, told_as, unless_fault}
 use Rattle.wf_model.specs.Letters.{Text}
 use Rattle.wf_model.specs.KeptLines.{Kept, columns}
-use Rattle.wf_model.specs.Entries.{Kind, dimspecs, states, rconfigs, packages, halos, periods, left_out, no_kind, kind_of, least_columns, entry_of, entry_of_kind, entries_of}
+use Rattle.wf_model.specs.Entries.{Kind, dimspecs, states, rconfigs, packages, halos, periods, left_out, no_kind, least_columns, entry_of, entry_of_kind, entries_of}
 use Rattle.wf_model.specs.Judging.{column_faults, line_fault}
 use Rattle.wf_model.specs.Registry.{broken_line, fault_at}
 use Rattle.wf_registry.specs.Lines.{column_entry, line_entry, word_kind}
@@ -127,7 +127,6 @@ judged_ok all before (l ∷ ls) es is = by (line_entry all before l.words) refl 
     by : (r : Result Entry RegistryKind) → line_entry all before l.words ≡ r → ((e : Entry) → lines_judged all (before ++ e ∷ []) ls ≡ Ok es → AreJudged all (before ++ e ∷ []) ls es) → AreJudged all before (l ∷ ls) es
     by (Ok e) here rest = one_ok all before l ls es e here (rest e (sym (ap (λ (r : Result Entry RegistryKind). told_as (fault_at l) (r >>= (λ x. Ok (before ++ x ∷ []))) >>= (λ xs. lines_judged all xs ls)) here) ∙ is))
     by (Err k) here rest = absurd (err_ok (fault_at l k) es (sym (ap (λ (r : Result Entry RegistryKind). told_as (fault_at l) (r >>= (λ x. Ok (before ++ x ∷ []))) >>= (λ xs. lines_judged all xs ls)) here) ∙ is))
-
 
 pub judged_err : (all before : List Entry) (ls : List Kept) (f : RegistryFault) → lines_judged all before ls ≡ Err f → broken_line all before ls ≡ Some f
 unfolding lines_judged

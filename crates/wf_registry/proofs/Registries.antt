@@ -1,19 +1,17 @@
 -- The Registry, from its lines judged and its names looked up.
-use Rattle.std.proofs.Common.{◌≡◌, ◌∙◌, sym, ap, ap₂, refl, ℕ, zero, suc, ◌+◌, ◌<◌, Bool, true, false, cond, List, [], ◌∷◌, ◌++◌, map, length, get_or, Option, Some, None, Result, Ok, Err, arith, subst}
+use Rattle.std.proofs.Common.{◌≡◌, ◌∙◌, sym, ap, ap₂, refl, ℕ, zero, suc, ◌<◌, Bool, true, false, cond, List, [], ◌∷◌, ◌++◌, map, length, get_or, Option, Some, None, Result, Ok, Err, arith, subst}
 use Rattle.std.specs.Prelude.{◌||◌, not, find, filter_map}
 use Rattle.std.specs.List.{list_any}
 use Rattle.std.specs.Option.{option_or, option_map, option_to_list}
 use Rattle.wf_model.specs.declared.registry.SourceFile.{SourceFile}
 use Rattle.wf_model.specs.declared.registry.Entry.{Entry}
-use Rattle.wf_model.specs.declared.registry.Entry.TheVariants.{Halo}
 use Rattle.wf_model.specs.declared.registry.Registry.{Registry}
 use Rattle.wf_model.specs.declared.registry.RegistryFault.{RegistryFault}
-use Rattle.wf_model.specs.declared.registry.RegistryKind.{RegistryKind}
 use Rattle.wf_model.specs.declared.registry.RegistryKind.TheVariants.{UnknownName}
 use Rattle.wf_model.specs.Reading.{Fails, unless_fault}
 use Rattle.wf_model.specs.KeptLines.{Kept, Defines, registry_lines}
 use Rattle.wf_model.specs.Entries.{entry_of, entries_of}
-use Rattle.wf_model.specs.Registry.{broken_line, fault_at, has_unknown, met_of, names_known, refusal, registry_of, stop_of, unknown_name}
+use Rattle.wf_model.specs.Registry.{fault_at, has_unknown, met_of, names_known, refusal, registry_of, stop_of, unknown_name}
 use Rattle.std.proofs.lemmas.List.{length-map}
 use Rattle.std.proofs.lemmas.Grind.{common_steps}
 use Rattle.wf_registry_lines.specs.Kept.{kept_in}
@@ -123,8 +121,8 @@ unnamed all files lines es at l axes judged first =
     let j = judged_ok all [] ls es judged in
     none_broken all ls None es axes j
     ∙ ap (λ (o : Option Kept). option_map (λ x. fault_at x UnknownName) o)
-        (ap (λ xs. find (has_unknown xs) ls) (same_entries all ls es j) ∙ find_first es ls es at (kept_in files l) (each_same all ls es j) first
-        ∙ ap (λ (x : Kept). Some x) (get-map (kept_in files) lines at l))
+    (ap (λ xs. find (has_unknown xs) ls) (same_entries all ls es j) ∙ find_first es ls es at (kept_in files l) (each_same all ls es j) first
+    ∙ ap (λ (x : Kept). Some x) (get-map (kept_in files) lines at l))
 
 pub accepted : (all : List Entry) (files : List SourceFile) (lines : List KeptLine) (es : List Entry) → HasAxesOf all (entries_of (map (kept_in files) lines))
     → lines_judged all [] (map (kept_in files) lines) ≡ Ok es → AreKnownBelow es es (length es) → refusal (map (kept_in files) lines) None ≡ None
@@ -133,7 +131,7 @@ accepted all files lines es axes judged known =
     let j = judged_ok all [] ls es judged in
     none_broken all ls None es axes j
     ∙ ap (λ (o : Option Kept). option_map (λ x. fault_at x UnknownName) o)
-        (ap (λ xs. find (has_unknown xs) ls) (same_entries all ls es j) ∙ find_none es ls es (each_same all ls es j) known)
+    (ap (λ xs. find (has_unknown xs) ls) (same_entries all ls es j) ∙ find_none es ls es (each_same all ls es j) known)
 
 pub entries_are : (all : List Entry) (ls : List Kept) (es : List Entry) → lines_judged all [] ls ≡ Ok es → entries_of ls ≡ es
 entries_are all ls es judged = same_entries all ls es (judged_ok all [] ls es judged)
@@ -182,5 +180,5 @@ module _ (files : List SourceFile) (defines : Defines) (lines : List KeptLine) (
   registry_accepted es is judged known =
       registry_is files defines (map (kept_in files) lines) end r.lines_are r.end_is
       ∙ ap₂ (λ (o : Option RegistryFault) (xs : List Entry). let q : Result Registry RegistryFault = unless_fault o (record { entries = xs }) in q)
-          (ap (refusal (map (kept_in files) lines)) is ∙ accepted all files lines es (gathered all files lines r.letters) judged known)
-          (entries_are all (map (kept_in files) lines) es judged)
+      (ap (refusal (map (kept_in files) lines)) is ∙ accepted all files lines es (gathered all files lines r.letters) judged known)
+      (entries_are all (map (kept_in files) lines) es judged)

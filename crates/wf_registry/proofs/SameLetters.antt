@@ -1,5 +1,5 @@
 -- Lines are judged alike beside entries that have the same letters and axes.
-use Rattle.std.proofs.Common.{◌≡◌, ◌∙◌, sym, ap, ap₂, refl, ℕ, Bool, true, false, List, [], ◌∷◌, ◌++◌, map, length, Option, None}
+use Rattle.std.proofs.Common.{◌≡◌, ap, ap₂, refl, ℕ, Bool, List, [], ◌∷◌, ◌++◌, map, length, Option, None}
 use Rattle.std.specs.Prelude.{◌==◌, ◌&&◌, ◌||◌, not, nat_lt, flat_map, codes, if◌then◌else◌}
 use Rattle.std.specs.List.{list_all, list_any}
 use Rattle.std.specs.Char.{is_ascii_alphabetic}
@@ -14,8 +14,8 @@ use Rattle.wf_model.specs.Letters.{Text, is_among, is_dash, is_name, is_number_w
 use Rattle.wf_model.specs.KeptLines.{Kept, columns}
 use Rattle.wf_model.specs.Io.{io_of}
 use Rattle.wf_model.specs.Groups.{Faults}
-use Rattle.wf_model.specs.Entries.{Kind, dimspecs, states, rconfigs, packages, halos, periods, left_out, no_kind, axis_of, column, entry_of, entry_variables, is_integer, is_two, kind_of, least_columns, variable_of, variables_of}
-use Rattle.wf_model.specs.Judging.{all_known, column_faults, dims_fault, fault_of_result, has_z, integer_faults, is_in_order, is_known, is_letter_b, is_short, is_stagger, is_state_type, level_fault, line_fault, stagger_fault, state_faults, symbol_of, taken_names}
+use Rattle.wf_model.specs.Entries.{Kind, dimspecs, states, rconfigs, packages, halos, periods, left_out, no_kind, column, entry_of, entry_variables, is_integer, is_two, kind_of, least_columns, variable_of, variables_of}
+use Rattle.wf_model.specs.Judging.{all_known, column_faults, dims_fault, fault_of_result, has_z, integer_faults, is_in_order, is_letter_b, is_short, is_stagger, is_state_type, level_fault, line_fault, stagger_fault, state_faults, symbol_of, taken_names}
 use Rattle.wf_model.specs.Registry.{broken_line, fault_at}
 use Rattle.wf_registry_columns.specs.Axes.{HasAxesOf}
 

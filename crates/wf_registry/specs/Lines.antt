@@ -1,5 +1,5 @@
 -- A line's entry, or the first rule that it breaks.
-use Rattle.std.specs.Prelude.{nat_lt, List, length, Result, Ok, Err, if◌then◌else◌}
+use Rattle.std.specs.Prelude.{nat_lt, List, length, Result, Err, if◌then◌else◌}
 use Rattle.wf_model.specs.declared.registry.Entry.{Entry}
 use Rattle.wf_model.specs.declared.registry.Entry.TheVariants.{Dimspec, State, Rconfig, Package, Halo, Period}
 use Rattle.wf_model.specs.declared.registry.RegistryKind.{RegistryKind}

@@ -4,7 +4,8 @@ ghost use Rattle.std.specs.Prelude.{◌≡◌};
 ghost use Rattle.wf_model.specs.BuiltIns.{is_built_in};
 
 /// The names of WRF's namelist that this project knows without an entry, in the order of their rules.
-const BUILT_INS: &[u8] = b"run_days run_hours run_minutes run_seconds start_year start_month start_day start_hour \
+const BUILT_INS: &[u8] =
+    b"run_days run_hours run_minutes run_seconds start_year start_month start_day start_hour \
     start_minute start_second input_from_file history_interval auxhist1_interval auxhist2_interval \
     auxhist3_interval auxhist4_interval auxhist5_interval auxhist6_interval auxhist7_interval \
     auxhist8_interval auxhist9_interval frames_per_outfile frames_per_auxhist1 frames_per_auxhist2 \

@@ -180,9 +180,7 @@ fn names_known(alloc: Global, all: &Declared, entry: &Entry) -> Result<bool, All
         Entry::Package { symbol, list, .. } => {
             is_package_known(alloc, all, symbol.as_slice(), list.as_slice())
         }
-        Entry::Halo { groups, .. } => {
-            known_names(alloc, all, Listed::Levels, groups.as_slice())
-        }
+        Entry::Halo { groups, .. } => { known_names(alloc, all, Listed::Levels, groups.as_slice()) }
         Entry::Period { groups, .. } => {
             known_names(alloc, all, Listed::Levels, groups.as_slice())
         }

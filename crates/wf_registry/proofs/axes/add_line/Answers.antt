@@ -1,7 +1,4 @@
-use Rattle.std.proofs.Common.{◌≡◌, ◌∙◌, sym, ap, true, false, length, arith}
-use Rattle.std.specs.Prelude.{nat_le}
-use Rattle.std.proofs.lemmas.List.{length-map}
-use Rattle.std.proofs.lemmas.Bool.Decides.{nat_tests}
+use Rattle.std.proofs.Common.{◌∙◌, sym, ap}
 use Rattle.wf_model.specs.Entries.{only_byte}
 use Rattle.wf_registry_columns.specs.Words.{word_texts}
 use Rattle.wf_registry_columns.specs.Kinds.{kind_seen}

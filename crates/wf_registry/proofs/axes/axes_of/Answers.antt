@@ -1,4 +1,4 @@
-use Rattle.std.proofs.Common.{◌≡◌, ◌∙◌, sym, ap, subst, ◌++◌}
+use Rattle.std.proofs.Common.{subst, ◌++◌}
 use Rattle.std.specs.Option.{option_to_list}
 use Rattle.wf_registry_columns.specs.Axes.{HasAxesOf}
 use Rattle.wf_registry_columns.specs.Words.{word_texts}

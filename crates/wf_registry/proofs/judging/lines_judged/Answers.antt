@@ -1,8 +1,7 @@
-use Rattle.std.proofs.Common.{◌≡◌, ◌∙◌, sym, ap, subst, Ok, [], map, arith, ◌≤◌, length}
+use Rattle.std.proofs.Common.{◌≡◌, subst, Ok, arith, ◌≤◌, length}
 use Rattle.wf_model.specs.Reading.{Fails}
 use Rattle.wf_registry_columns.specs.Words.{word_texts}
-use Rattle.wf_registry_lines.specs.Kept.{kept_in}
-use Rattle.wf_registry.specs.Judged.{lines_judged, words_judged}
+use Rattle.wf_registry.specs.Judged.{words_judged}
 use Rattle.wf_registry.specs.RegistryErrors.{fault_of, rule_of}
 use Rattle.wf_registry.proofs.JudgedLoop.{all_judged, judged_fails, judged_more}
 use Rattle.wf_registry.proofs.judging.lines_judged.Goals as goal

@@ -3,7 +3,6 @@ use Rattle.std.specs.List.{All}
 use Rattle.wf_model.specs.declared.registry.RegistryKind.TheVariants.{UnknownName}
 use Rattle.wf_model.specs.Registry.{fault_at}
 use Rattle.std.proofs.lemmas.Result.{err_from_is_err_and}
-use Rattle.wf_model.specs.declared.registry.Entry.{Entry}
 use Rattle.wf_model.specs.Reading.{Fails}
 use Rattle.wf_registry_columns.specs.Axes.{HasAxesOf}
 use Rattle.wf_registry_lines.specs.Kept.{kept_in}
@@ -26,7 +25,7 @@ returns-in_err-declared c =
     } in
     let p = err_from_is_err_and c.from_residual-in_err-declared.result c.from_residual-in_err-declared.ensures.1 in
     rw (p.1, p.2) (registry_broken files c.args.defines.now lines c.in_ok-lines.field-0.fault c.in_ok-all.all read (fault_of c.in_err-declared.field-0.0)
-      (subst (λ ls. Fails (fault_of c.in_err-declared.field-0.0) (lines_judged c.in_ok-all.all [] (map (kept_in files) ls))) c.deref-2.ensures.value c.in_err-declared.ensures))
+    (subst (λ ls. Fails (fault_of c.in_err-declared.field-0.0) (lines_judged c.in_ok-all.all [] (map (kept_in files) ls))) c.deref-2.ensures.value c.in_err-declared.ensures))
 
 pub returns-in-Some : goal.returns-in-Some
 returns-in-Some c =
@@ -54,7 +53,7 @@ returns c =
     let end : c.in_ok-lines.field-0.fault ≡ None = cc in
     let known : AreKnownBelow es es (length es) = subst (λ o. IfNone o (AreKnownBelow es es (length es))) c.in-None.is c.in_ok-at.ensures.none in
     rw (c.from_vec.ensures, c.into_entries.ensures) (registry_accepted files c.args.defines.now lines c.in_ok-lines.field-0.fault c.in_ok-all.all read es end
-      (subst (λ ls. lines_judged c.in_ok-all.all [] (map (kept_in files) ls) ≡ Ok es) c.deref-2.ensures.value c.in_ok-declared.ensures) known)
+    (subst (λ ls. lines_judged c.in_ok-all.all [] (map (kept_in files) ls) ≡ Ok es) c.deref-2.ensures.value c.in_ok-declared.ensures) known)
 
 pub unknown_name-requires-clause-place : goal.unknown_name-requires-clause-place
 unknown_name-requires-clause-place c =
