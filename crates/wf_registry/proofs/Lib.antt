@@ -1,0 +1,10 @@
+pub mod AxisGathering
+pub mod BuiltInNames
+pub mod IndexLemmas
+pub mod IntegerLemmas
+pub mod JudgedLemmas
+pub mod JudgedLoop
+pub mod NamesInLower
+pub mod Registries
+pub mod SameLetters
+pub mod Sharing

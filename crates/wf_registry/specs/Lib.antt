@@ -1,0 +1,9 @@
+pub mod Adding
+pub mod Indexing
+pub mod FieldNames
+pub mod Lines
+pub mod Judged
+pub mod LineEntries
+pub mod RegistryErrors
+pub mod Sorts
+pub mod Unknown

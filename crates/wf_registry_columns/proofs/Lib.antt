@@ -1,0 +1,4 @@
+pub mod AxisLemmas
+pub mod GroupLemmas
+pub mod IoParts
+pub mod JoinedWords
