@@ -1,5 +1,6 @@
 """Writes the inputs of the readers' measurements into the folder that is named: for bench/run."""
 import os
+import struct
 import sys
 
 LETTERS = "abcdefghijklmnopqrstuvwxyz"
@@ -26,11 +27,29 @@ def table():
     return "".join(f"phase p{n} writes a margin 1 1 = -{tree(512)}\n" for n in range(256))
 
 
+def words(*numbers):
+    return b"".join(struct.pack(">I", number) for number in numbers)
+
+
+def named(name):
+    return words(len(name)) + name + bytes(-len(name) % 4)
+
+
+def numbers(side):
+    """A netCDF classic file with one record of so many numbers by so many."""
+    size = 4 * side * side
+    front = b"CDF\x01" + words(1, 10, 3) + named(b"Time") + words(0) + named(b"south_north") + words(side)
+    front += named(b"west_east") + words(side, 0, 0, 11, 1) + named(b"A") + words(3, 0, 1, 2, 0, 0, 4, size)
+    return front + words(len(front) + 4) + (bytes(range(256)) * (size // 256 + 1))[:size]
+
+
 def main():
     os.chdir(sys.argv[1])
     for name, text in [("registry", registry(50_000)), ("registry_half", registry(25_000)), ("table", table())]:
         with open(name, "w") as file:
             file.write(text)
+    with open("numbers", "wb") as file:
+        file.write(numbers(5000))
 
 
 main()
