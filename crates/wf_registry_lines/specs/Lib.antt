@@ -1,1 +1,5 @@
 pub mod Kept
+pub mod Met
+pub mod Kinds
+pub mod Conditions
+pub mod Ahead

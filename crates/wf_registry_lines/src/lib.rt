@@ -11,6 +11,16 @@ ghost use Rattle.wf_model.specs.KeptLines.{registry_lines};
 ghost use Rattle.wf_model.specs.Registry.{met_of, stop_of};
 ghost use Rattle.wf_registry_lines.specs.Kept.{kept_in};
 
+mod ahead;
+mod condition;
+mod kind;
+mod progress;
+mod reader;
+#[cfg(test)]
+mod tests;
+
+use crate::progress::ReadingError;
+use crate::reader::Reader;
 use std::alloc::{AllocError, Global};
 use wf_model::{List, Name, RegistryFault, SourceFile, Word};
 
@@ -30,8 +40,26 @@ pub struct KeptLines {
     pub fault: Option<RegistryFault>,
 }
 
+/// The lines that count among these files, where these names are defined, each with a value.
+///
+/// A line counts where no ifdef around it drops it, and where it is no include, ifdef or endif. An
+/// `ifdef NAME=VALUE` keeps the lines up to its endif where NAME, ignoring case, is defined with that
+/// very value; the words `include`, `ifdef` and `endif` ignore case too. Reading stops at the first
+/// fault, in reading order:
+///
+/// - `MissingFile`, line 0: there is no file `Registry`;
+/// - `NotText`, line 0: a file that is read isn't UTF-8;
+/// - `BadText`: a quoted word has no end, or a continued line ends the text; the lines before count;
+/// - `MissingInclude`: there is no file with the name that an include has;
+/// - `IncludeLoop`: the file that an include names is being read;
+/// - `UnclosedIf`: an ifdef where lines are kept has no endif in its file, whose text has no fault;
+/// - `StrayEndif`: an endif has no ifdef in its file;
+/// - `Columns`: an include has no name, or an ifdef where lines are kept no `NAME=VALUE`;
+/// - `TooLong`: an include would be the 65th file, or a line the 100,001st of all, dropped ones counted.
+///
+/// The call fails only where memory runs out, or where a line or a column has no number of 32 bits.
 pub fn kept_lines(
-    _alloc: Global,
+    alloc: Global,
     files: &[SourceFile],
     defines: &[(Name, Name)],
 ) -> Result<KeptLines, AllocError>
@@ -39,7 +67,20 @@ pub fn kept_lines(
     ensures fault { IfOk result (λ k. k.fault ≡ stop_of (registry_lines files.now defines.now)) }
     ensures places { IfOk result (λ k. All (λ l. l.file < length files.now) k.lines.items) }
 {
-    let _ = files.len();
-    let _ = defines.len();
-    Err(AllocError)
+    let reader = Reader {
+        alloc,
+        files,
+        defines,
+    };
+    match reader.registry() {
+        Ok(progress) => Ok(KeptLines {
+            lines: progress.kept,
+            fault: None,
+        }),
+        Err(ReadingError::Stopped(stopped)) => Ok(KeptLines {
+            lines: stopped.progress.kept,
+            fault: Some(stopped.fault),
+        }),
+        Err(ReadingError::Memory) => Err(AllocError),
+    }
 }
