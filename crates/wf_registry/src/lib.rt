@@ -22,3 +22,6 @@ mod unknown;
 
 pub use error::RegistryError;
 pub use registry::read_registry;
+
+#[cfg(test)]
+mod tests;
