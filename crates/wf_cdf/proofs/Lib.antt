@@ -3,5 +3,3 @@ pub mod Sizes
 pub mod Lengths
 pub mod Placed
 pub mod Limits
-pub mod DimPlaces
-pub mod LevelLoops
