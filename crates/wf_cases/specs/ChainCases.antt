@@ -1,12 +1,11 @@
 -- Worked cases from the texts of a run to its refusal, or to what `check` prints.
 use Rattle.std.specs.Prelude.{ℕ, ◌≡◌, false, List, [], ◌∷◌, ◌++◌, Option, Some, None, Result, Ok, Err, pos, codes, decimal}
-use Rattle.wf_model.specs.Refusals.{Refusal, refusal, line, config_refusal, plan_refusal}
+use Rattle.wf_model.specs.Refusals.{Refusal, refusal, line, plan_refusal}
 use Rattle.wf_model.specs.declared.config.Config.{Config}
 use Rattle.wf_model.specs.Reading.{◌>>=◌, told_as, first_fault, unless_fault}
-use Rattle.wf_model.specs.Config.{config_of}
-use Rattle.wf_model.specs.PlanTests.{built_faults}
+use Rattle.wf_model.specs.PlanTests.{sound_faults}
 use Rattle.wf_model.specs.PlanOf.{plan_from}
-use Rattle.wf_model.specs.FilesRead.{Planned, plan_read, registry_read, namelist_text}
+use Rattle.wf_model.specs.FilesRead.{Planned, config_read, plan_read}
 use Rattle.wf_model.specs.Answer.{Outside, check, demo, command_answer}
 use Rattle.wf_model.specs.Files.{Files}
 use Rattle.wf_model.specs.Plans.{domain_of}
@@ -40,15 +39,12 @@ pub record NamelistRefusals : Type 0 where
   pub no_step : with_namelist (namelist_with [] sizes) ≡ config_refused (codes "time_step") (codes "OutOfRange")
 
 -- the config of the base Registry and this namelist
-abbrev pub config_read : List ℕ → Result Config Refusal
-config_read namelist =
-    registry_read (texts case_registry namelist []) [] >>= λ registry.
-    namelist_text (Some namelist) >>= λ items.
-    told_as config_refusal (config_of registry items)
+abbrev pub config_with : List ℕ → Result Config Refusal
+config_with namelist = config_read (texts case_registry namelist []) []
 
 -- why there would be no plan of them and of an empty table if all were built
 abbrev pub if_built : List ℕ → Option Refusal
-if_built namelist = fault (config_read namelist >>= λ config. told_as plan_refusal (unless_fault (first_fault (built_faults config shipped_names (plan_from config shipped_names []))) config))
+if_built namelist = fault (config_with namelist >>= λ config. told_as plan_refusal (unless_fault (first_fault (sound_faults config shipped_names (plan_from config shipped_names []))) config))
 
 pub record NestRefusals : Type 0 where
   -- nests aren't built, and this is told before any of their faults

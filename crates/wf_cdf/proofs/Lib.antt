@@ -3,3 +3,4 @@ pub mod Sizes
 pub mod Lengths
 pub mod Placed
 pub mod Limits
+pub mod LevelLoops

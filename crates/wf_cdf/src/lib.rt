@@ -8,13 +8,17 @@ mod place;
 mod size;
 mod slab;
 mod sound;
+mod stream_header;
 mod too_long;
 
 pub use header::write_header;
 pub use place::place_vars;
 pub use slab::{write_chars, write_slab};
 pub use sound::{begins_fit, is_sound};
+pub use stream_header::file_header;
 pub use too_long::TooLong;
 
+#[cfg(test)]
+mod stream_tests;
 #[cfg(test)]
 mod tests;

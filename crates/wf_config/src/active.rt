@@ -7,10 +7,10 @@ ghost use Rattle.wf_config.specs.Active.{active_in, group_listings, holds, is_ac
 use crate::copies::copy_entry;
 use crate::given::first_int;
 use crate::parts::names_in;
-use crate::values::{NameValues, values_of};
+use crate::values::NameValues;
 use crate::words::parts;
 use std::alloc::{AllocError, Global};
-use wf_model::{Bytes, Entry};
+use wf_model::{Bytes, Entry, values_of};
 use wf_text::lower;
 
 /// A symbol that a package lists, and whether the package holds.

@@ -15,7 +15,7 @@ fn find_colon(group: &[u8]) -> Option<usize>
 }
 
 /// The place of the first colon, or the length where there is none.
-#[tactic(auto, using(wf_text::proofs::Places::found, wf_text::proofs::Places::not_found))]
+#[tactic(auto, using(wf_model::proofs::FirstPlaces::found, wf_model::proofs::FirstPlaces::not_found))]
 fn colon_at(group: &[u8]) -> usize
     ensures place { result ≡ position_or_len is_colon group.now }
     ensures bound { result ≤ length group.now }

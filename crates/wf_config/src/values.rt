@@ -2,7 +2,7 @@
 
 ghost use Rattle.std.specs.Prelude.{◌≡◌, ◌++◌, ◌&&◌, IfOk, codes, map};
 ghost use Rattle.wf_model.specs.BuiltIns.{built_ins};
-ghost use Rattle.wf_model.specs.Config.{filled, is_start_name, missing_value, missing_values, values_of};
+ghost use Rattle.wf_model.specs.Config.{filled, is_start_name, missing_value, missing_values};
 ghost use Rattle.wf_config.specs.Rules.{default_in, rule_of, wanted};
 
 use crate::copies::{copy_name, copy_value, copy_values};
@@ -111,16 +111,4 @@ pub(crate) fn values(
         values.push(filled(alloc, table, domains, items, rule)?)?;
     }
     Ok(values)
-}
-
-/// The values that a name has.
-pub(crate) fn values_of<'a>(values: &'a [NameValues], name: &[u8]) -> &'a [Value]
-    ensures { result.now ≡ values_of values.now name.now }
-{
-    for pair in values {
-        if pair.0.as_slice() == name {
-            return pair.1.as_slice();
-        }
-    }
-    &[]
 }

@@ -184,6 +184,7 @@ module _ (nx ny steps : ℕ) where
   pub initial_fits : IsFittingInitial plan (demo_initial nx ny)
   unfolding domain_of begin_of field_of
   initial_fits = record {
+    shape = record { domains = refl; levels = λ d is. subst (λ (e : ℕ). length (get_or (demo_initial nx ny).grids (e - 1) no_lists) ≡ length plan.fields) (sym (one_domain nx ny steps d is)) refl };
     begins = refl;
     sound = λ d is. subst (λ (e : ℕ). IsSoundBegin plan e (begin_of (demo_initial nx ny).begins e)) (sym (one_domain nx ny steps d is)) begin_sound;
     first = λ h. absurd (differ (sym h));

@@ -20,7 +20,7 @@ use Rattle.wf_model.specs.Outcome.{no_list, no_lists}
 use Rattle.wf_grid.specs.Levels.{AreLists}
 use Rattle.wf_grid.specs.Reading.{IsRunnable}
 use Rattle.wf_grid.specs.Takeable.{IsTakeable, IsTable}
-use Rattle.wf_grid.specs.Held.{IsReady, HasLists, CallsNothing, first_lists}
+use Rattle.wf_grid.specs.Held.{IsReady, CallsNothing, first_lists}
 
 -- a sum of numbers up to a greatest
 sum_most : (f : ℕ → ℕ) (c : ℕ) → ((k : ℕ) → f k ≤ c) → (a n : ℕ) → sum_by f (range_with_len a n) ≤ n * c
@@ -49,7 +49,7 @@ last_is_early : seconds_before last_moment < 2 ^ 62
 unfolding days_before
 last_is_early = omega (arith, sum_most year_days 366 year_most 1 9998, sum_most (month_days 9999) 31 (month_most 9999) 1 11)
 
-module _ (plan : Plan) (initial : Initial) (sound : IsSoundPlan plan) (ranged : IsRangedPlan plan) (fitting : IsFittingInitial plan initial) (lists : HasLists plan initial)
+module _ (plan : Plan) (initial : Initial) (sound : IsSoundPlan plan) (ranged : IsRangedPlan plan) (fitting : IsFittingInitial plan initial)
     (one : length plan.domains ≡ 1) (calls : All CallsNothing plan.items) where
   -- domain 1 is the plan's
   first_domain : IsDomain plan 1
@@ -95,7 +95,7 @@ module _ (plan : Plan) (initial : Initial) (sound : IsSoundPlan plan) (ranged : 
     domain = first_domain;
     wide = sound.wide 1 first_domain;
     high = sound.high 1 first_domain;
-    levels = lists.levels 1 first_domain;
+    levels = fitting.shape.levels 1 first_domain;
     each = λ f h. fitting.lists 1 f first_domain h;
   }
 
@@ -116,7 +116,7 @@ module _ (plan : Plan) (initial : Initial) (sound : IsSoundPlan plan) (ranged : 
     sound = sound;
     first = ranged.first;
     one_domain = one;
-    domains = lists.domains ∙ one;
+    domains = fitting.shape.domains ∙ one;
     begins = omega (arith, fitting.begins, one);
     lists = are;
     table = table;

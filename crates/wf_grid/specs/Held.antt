@@ -58,11 +58,6 @@ pub record IsReady (plan : Plan) (initial : Initial) (scratch : List ℤ) : Type
   pub room : HasRoom plan 1 scratch
   pub steps : (begin_of initial.begins 1).steps + plan.steps < 2 ^ 64
 
--- as many lists as the plan has domains and levels
-pub record HasLists (plan : Plan) (initial : Initial) : Type 0 where
-  pub domains : length initial.grids ≡ length plan.domains
-  pub levels : (d : ℕ) → IsDomain plan d → length (slice_index_or initial.grids (d - 1) no_lists) ≡ length plan.fields
-
 -- no phase calls a stored function
 abbrev pub CallsNothing : Item → Type 0
 CallsNothing (item.Halo parts) = Unit {0}

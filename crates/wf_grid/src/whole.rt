@@ -8,7 +8,7 @@ ghost use Rattle.wf_model.specs.Sound.{IsDomain, IsLevel, IsSoundPlan, IsRangedP
 ghost use Rattle.wf_grid.specs.Levels.{AreLists};
 ghost use Rattle.wf_grid.specs.Stepped.{left_by_steps};
 ghost use Rattle.wf_grid.specs.Takeable.{IsTable, HasRoom};
-ghost use Rattle.wf_grid.specs.Held.{run_of, held_with, all_lists, point_at_end, grids_at_end, first_lists, HasLists, CallsNothing};
+ghost use Rattle.wf_grid.specs.Held.{run_of, held_with, all_lists, point_at_end, grids_at_end, first_lists, CallsNothing};
 
 use crate::item::take_step;
 use std::alloc::{AllocError, Global};
@@ -113,7 +113,6 @@ impl Whole {
         requires sound { IsSoundPlan plan }
         requires ranged { IsRangedPlan plan }
         requires fitting { IsFittingInitial plan initial }
-        requires lists { HasLists plan initial }
         requires one_domain { length plan.domains ≡ 1 }
         requires calls { All CallsNothing plan.items }
         ensures { IfOk result (λ w. w ≡ record { plan = plan; initial = initial }) }

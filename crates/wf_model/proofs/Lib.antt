@@ -1,4 +1,5 @@
 pub mod JoinedLines
 pub mod FactorRoom
+pub mod FirstPlaces
 pub mod ReadingLemmas
 pub mod StoreRunLaws

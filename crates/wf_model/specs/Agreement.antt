@@ -5,14 +5,14 @@ use Rattle.wf_model.specs.declared.plan.Plan.{Plan}
 use Rattle.wf_model.specs.Plans.{nz, point_x, point_y}
 use Rattle.wf_model.specs.Changes.{Spot}
 use Rattle.wf_model.specs.Outcome.{RunData, script, grids_at, outcome_of}
-use Rattle.wf_model.specs.Patches.{Split, split_of, Cell, in_box, memory_box, is_own}
+use Rattle.wf_model.specs.Patches.{Split, Cell, in_box, memory_box, is_own}
 use Rattle.wf_model.specs.Shapes.{grid_cell}
 use Rattle.wf_model.specs.Marks.{Marks, all_fresh, marks_after, is_fresh}
 use Rattle.wf_model.specs.Covered.{IsCovered}
 use Rattle.wf_model.specs.PatchEffect.{Memory}
 use Rattle.wf_model.specs.Lockstep.{lockstep_at}
 use Rattle.wf_model.specs.Held.{stands_past}
-use Rattle.wf_model.specs.Sound.{IsDomain, IsSoundPlan, IsSoundLayout}
+use Rattle.wf_model.specs.Sound.{IsSoundPlan, IsSoundLayout}
 use Rattle.wf_model.specs.Turns.{turns_at}
 
 -- the plan and the layout are sound, and the halo check accepts the plan

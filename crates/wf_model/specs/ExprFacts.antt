@@ -1,5 +1,5 @@
 -- What is counted of an expression, and what its parts keep.
-use Rattle.std.specs.Prelude.{◌≡◌, ℕ, ◌+◌, ◌^◌, ◌<◌, ◌≤◌, max, List, [], ◌∷◌, ◌++◌, length, unsigned_abs, All}
+use Rattle.std.specs.Prelude.{ℕ, ◌+◌, ◌^◌, ◌<◌, ◌≤◌, max, List, [], ◌∷◌, ◌++◌, unsigned_abs, All}
 use Rattle.wf_model.specs.declared.expr.Expr.{Expr, Expr-F, fold-Expr}
 use Rattle.wf_model.specs.declared.expr.Args.{Args-F}
 use Rattle.wf_model.specs.declared.expr.Args.TheOpen as e

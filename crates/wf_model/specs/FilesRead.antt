@@ -85,14 +85,24 @@ table_text config hooks (Some text) = told_as table_refusal (table_of text (name
 abbrev pub Planned : Type 0
 Planned = Config × Plan
 
+-- the config of the texts: Registry, namelist
+unfoldable pub config_read : Files → Defines → Result Config Refusal
+config_read files defines =
+    registry_read files defines >>= λ registry.
+    namelist_text (files (codes "namelist.input")) >>= λ namelist.
+    told_as config_refusal (config_of registry namelist)
+
+-- the plan of a config and of the table
+unfoldable pub plan_made : List HookName → Files → Config → Result Plan Refusal
+plan_made hooks files config =
+    table_text config hooks (files (codes "stencil.table")) >>= λ items.
+    told_as plan_refusal (plan_of config hooks items)
+
 -- the texts in order: Registry, namelist, table; then the plan and the restart rule
 unfoldable pub plan_read : List HookName → Files → Defines → Result Planned Refusal
 plan_read hooks files defines =
-    registry_read files defines >>= λ registry.
-    namelist_text (files (codes "namelist.input")) >>= λ namelist.
-    told_as config_refusal (config_of registry namelist) >>= λ config.
-    table_text config hooks (files (codes "stencil.table")) >>= λ items.
-    told_as plan_refusal (plan_of config hooks items) >>= λ plan.
+    config_read files defines >>= λ config.
+    plan_made hooks files config >>= λ plan.
     unless_fault (option_map (restart_refusal plan) (first_lost plan)) (config, plan)
 
 -- the halo rule, and then the layout

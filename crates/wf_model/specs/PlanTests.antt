@@ -215,6 +215,10 @@ phase_edges plan zs d ph = if has_region plan zs d ph then map (edges_fault plan
 abbrev pub extent_fault : ℤ → Option PlanFault
 extent_fault z = fault_if (int_lt z (pos 1) || int_lt (pos 128) z) (Limit which.Extent z)
 
+-- the size of the files of a stream of a domain
+abbrev pub file_fault : Plan → ℕ → ℕ → Option PlanFault
+file_fault plan d s = fault_if (nat_lt (most_bytes plan.version) (stream_bytes plan d s)) (Limit which.FileBytes (pos (stream_bytes plan d s)))
+
 -- levels, extents, cells, items of the script, bytes of files
 abbrev pub limit_faults : Plan → List ℤ → Faults
 limit_faults plan zs =
@@ -222,18 +226,17 @@ limit_faults plan zs =
     ∷ map extent_fault zs
     ++ fault_if (nat_lt 50000000 (all_cells plan)) (Limit which.Cells (pos (all_cells plan)))
     ∷ fault_if (nat_lt 1000000 (script_items plan)) (Limit which.Script (pos (script_items plan)))
-    ∷ flat_map (λ d. map (λ s. fault_if (nat_lt (most_bytes plan.version) (stream_bytes plan d s)) (Limit which.FileBytes (pos (stream_bytes plan d s)))) (range_with_len 0 11)) (domains_of plan)
+    ∷ flat_map (λ d. map (file_fault plan d) (range_with_len 0 11)) (domains_of plan)
 
 -- ---- all tests
 
 abbrev pub nests_of : Plan → List ℕ
 nests_of plan = filter (nat_lt 1) (domains_of plan)
 
--- the tests of what is built, in order
-unfoldable pub built_faults : Config → List HookName → Plan → Faults
-built_faults config hooks plan =
+-- of domains and times, in order
+unfoldable pub domain_faults : Config → Plan → Faults
+domain_faults config plan =
     let nests = nests_of plan in
-    let zs = z_extents config in
     map (date_fault config) (domains_of plan)
     ++ (end_fault config ∷ [])
     ++ map (parent_fault plan) nests
@@ -245,11 +248,22 @@ built_faults config hooks plan =
     ++ (run_fault config plan ∷ [])
     ++ map (start_fault plan) nests
     ++ flat_map (interval_faults config plan) (domains_of plan)
-    ++ map (hook_fault hooks) config.fields
-    ++ flat_map (λ d. flat_map (phase_levels plan zs d) (phases plan.items)) (domains_of plan)
-    ++ flat_map (λ d. flat_map (phase_edges plan zs d) (phases plan.items)) (domains_of plan)
-    ++ limit_faults plan zs
 
--- all tests, in order: what isn't built comes first
-unfoldable pub plan_faults : Config → List HookName → Plan → Faults
-plan_faults config hooks plan = map (unbuilt_fault config) unbuilt ++ built_faults config hooks plan
+-- of what phases read: levels, and then edges
+unfoldable pub read_faults : Plan → List ℤ → Faults
+read_faults plan zs =
+    flat_map (λ d. flat_map (phase_levels plan zs d) (phases plan.items)) (domains_of plan)
+    ++ flat_map (λ d. flat_map (phase_edges plan zs d) (phases plan.items)) (domains_of plan)
+
+-- of what phases read, and of limits
+unfoldable pub item_faults : Plan → List ℤ → Faults
+item_faults plan zs = read_faults plan zs ++ limit_faults plan zs
+
+-- all tests but those of what isn't built, in order. Stored functions of levels are tested once nests are built
+unfoldable pub sound_faults : Config → List HookName → Plan → Faults
+sound_faults config hooks plan =
+    domain_faults config plan ++ map (hook_fault hooks) config.fields ++ item_faults plan (z_extents config)
+
+-- all tests, in order: what isn't built comes first. Stored functions of levels count once nests are built
+unfoldable pub plan_faults : Config → Plan → Faults
+plan_faults config plan = map (unbuilt_fault config) unbuilt ++ domain_faults config plan ++ item_faults plan (z_extents config)

@@ -1,5 +1,5 @@
 -- The ranges of the numbers of plans and layouts: of namelist values, of the stencil table, and the limits.
-use Rattle.std.specs.Prelude.{◌≡◌, ℕ, ◌*◌, ◌^◌, ◌<◌, ◌≤◌, List, length, All, IsTrue, IsFalse}
+use Rattle.std.specs.Prelude.{◌≡◌, ℕ, ◌*◌, ◌^◌, ◌<◌, ◌≤◌, length, All, IsTrue, IsFalse}
 use Rattle.wf_model.specs.declared.plan.Domain.{Domain}
 use Rattle.wf_model.specs.declared.plan.Field.{Field}
 use Rattle.wf_model.specs.declared.plan.HaloPart.{HaloPart}

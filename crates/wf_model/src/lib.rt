@@ -28,7 +28,7 @@ mod table;
 mod text;
 
 pub use cdf_error::{CdfError, SlabError};
-pub use config::{Config, ConfigFault};
+pub use config::{Config, ConfigFault, values_of};
 pub use demo::Demo;
 pub use event::Event;
 pub use expr::{Args, Expr, Test};

@@ -9,7 +9,7 @@ use Rattle.wf_model.specs.Namelist.{Tokens, is_star, parted, refuse, repeated, r
 use Rattle.wf_model.specs.Reading.{◌>>=◌}
 use Rattle.wf_model.specs.declared.namelist.NamelistKind.TheVariants.{BadValue}
 use Rattle.wf_model.specs.ValueForms.{has}
-use Rattle.wf_text.proofs.Places.{found}
+use Rattle.wf_model.proofs.FirstPlaces.{found}
 
 -- a number that is there
 known : (b : Bool) (n k : ℕ) → then_some b n ≡ Some k → (b ≡ true) × (n ≡ k)

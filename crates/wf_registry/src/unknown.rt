@@ -67,7 +67,7 @@ fn colon_at(bytes: &[u8]) -> Option<usize>
 }
 
 /// What stands behind the first colon, and nothing where there is none.
-#[tactic(auto, using(wf_text::proofs::Places::found, wf_text::proofs::Places::not_found))]
+#[tactic(auto, using(wf_model::proofs::FirstPlaces::found, wf_model::proofs::FirstPlaces::not_found))]
 fn behind_colon(group: &[u8]) -> &[u8]
     ensures { result.now ≡ after_first is_colon group.now }
 {

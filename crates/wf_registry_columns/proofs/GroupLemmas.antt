@@ -4,7 +4,7 @@ use Rattle.std.specs.Prelude.{not, flat_map, nat_lt}
 use Rattle.std.specs.List.{position_or_len, slice_split, onto_first}
 use Rattle.std.proofs.lemmas.List.Splits.{slice_split_first, slice_split-cons_no}
 use Rattle.std.proofs.lemmas.Bool.Decides.{nat_tests}
-use Rattle.wf_text.proofs.Places.{found, not_found}
+use Rattle.wf_model.proofs.FirstPlaces.{found, not_found}
 use Rattle.wf_model.specs.declared.registry.RegistryKind.{RegistryKind}
 use Rattle.wf_model.specs.Letters.{Text}
 use Rattle.wf_model.specs.Reading.{first_fault}

@@ -8,53 +8,41 @@ use Rattle.std.specs.Prelude.{◌||◌, find, position, slice_get, nat_lt}
 use Rattle.std.specs.List.{position_or_len, before_first, after_first}
 use Rattle.std.proofs.lemmas.Bool.Decides.{nat_tests}
 use Rattle.std.specs.Str.{bytes_eq}
+use Rattle.wf_model.proofs.FirstPlaces.{found, not_found}
 use Rattle.wf_model.specs.declared.registry.SourceFile.{SourceFile}
 use Rattle.wf_model.specs.Letters.{Text, is_among}
 use Rattle.wf_registry_lines.specs.Kept.{name_at, name_of}
 
--- a place that is found is the first one
-found : (b : Bool) (n k : ℕ) → cond b (Some n) None ≡ Some k → n ≡ k
-found true n k e = cc
-found false n k e = absurd cc
-
--- where none is found, the test fails
-missed : (b : Bool) (n : ℕ) → cond b (Some n) None ≡ None → b ≡ false
-missed true n e = absurd cc
-missed false n e = refl
+none_before_end : {X : Type 0} (p : X → Bool) (xs : List X) → position p xs ≡ None → length xs ≤ position_or_len p xs
+none_before_end p xs e = let is = not_found p xs e in omega (arith, is)
 
 pub place_is : {X : Type 0} (p : X → Bool) (xs : List X) (k : ℕ) → position p xs ≡ Some k → position_or_len p xs ≡ k
-place_is p xs k e = found (nat_lt (position_or_len p xs) (length xs)) (position_or_len p xs) k e
-
-past_end : (n m : ℕ) → nat_lt n m ≡ false → m ≤ n
-past_end n m e = grind (arith, nat_tests)
-
-pub no_place : {X : Type 0} (p : X → Bool) (xs : List X) → position p xs ≡ None → length xs ≤ position_or_len p xs
-no_place p xs e = past_end (position_or_len p xs) (length xs) (missed (nat_lt (position_or_len p xs) (length xs)) (position_or_len p xs) e)
+place_is p xs k e = (found p xs k e).0
 
 -- ---- what stands before and after it
 
 pub before_place : {X : Type 0} (p : X → Bool) (xs : List X) (k : ℕ) → position p xs ≡ Some k → take k xs ≡ before_first p xs
-before_place p xs k e = ap (λ n. take n xs) (sym (place_is p xs k e))
+before_place p xs k e = ap (λ n. take n xs) (sym ((found p xs k e).0))
 
 pub after_place : {X : Type 0} (p : X → Bool) (xs : List X) (k : ℕ) → position p xs ≡ Some k → drop (k + 1) xs ≡ after_first p xs
-after_place p xs k e = ap (λ n. drop (n + 1) xs) (sym (place_is p xs k e))
+after_place p xs k e = ap (λ n. drop (n + 1) xs) (sym ((found p xs k e).0))
 
 pub all_before : {X : Type 0} (p : X → Bool) (xs : List X) → position p xs ≡ None → xs ≡ before_first p xs
-all_before p xs e = sym (take_all (position_or_len p xs) xs (no_place p xs e))
+all_before p xs e = sym (take_all (position_or_len p xs) xs (none_before_end p xs e))
 
 pub none_after : {X : Type 0} (p : X → Bool) (xs : List X) → position p xs ≡ None → [] ≡ after_first p xs
 none_after p xs e =
-    let le : length xs ≤ position_or_len p xs = no_place p xs e in
+    let le : length xs ≤ position_or_len p xs = none_before_end p xs e in
     let more : length xs ≤ position_or_len p xs + 1 = omega arith in
     sym (drop_of_length-le xs more)
 
 -- ---- what stands there
 
 pub find_place : {X : Type 0} (p : X → Bool) (xs : List X) (k : ℕ) → position p xs ≡ Some k → find p xs ≡ slice_get xs k
-find_place p xs k e = find_at p xs ∙ ap (slice_get xs) (place_is p xs k e)
+find_place p xs k e = find_at p xs ∙ ap (slice_get xs) ((found p xs k e).0)
 
 pub find_none : {X : Type 0} (p : X → Bool) (xs : List X) → position p xs ≡ None → find p xs ≡ None
-find_none p xs e = find_at p xs ∙ slice_get_past xs (position_or_len p xs) (no_place p xs e)
+find_none p xs e = find_at p xs ∙ slice_get_past xs (position_or_len p xs) (none_before_end p xs e)
 
 -- ---- a name among those of some places, one after the other
 

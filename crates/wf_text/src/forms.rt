@@ -156,7 +156,7 @@ fn find_exponent(word: &[u8]) -> Option<usize>
 }
 
 /// The place of the first exponent letter, or the word's length where there is none.
-#[tactic(auto, using(crate::proofs::Places::found, crate::proofs::Places::not_found))]
+#[tactic(auto, using(wf_model::proofs::FirstPlaces::found, wf_model::proofs::FirstPlaces::not_found))]
 fn exponent_at(word: &[u8]) -> usize
     ensures place { result ≡ position_or_len is_exponent_letter word.now }
     ensures bound { result ≤ length word.now }
@@ -174,7 +174,7 @@ fn find_point(word: &[u8]) -> Option<usize>
 }
 
 /// The place of the first point, or the word's length where there is none.
-#[tactic(auto, using(crate::proofs::Places::found, crate::proofs::Places::not_found))]
+#[tactic(auto, using(wf_model::proofs::FirstPlaces::found, wf_model::proofs::FirstPlaces::not_found))]
 fn point_at(word: &[u8]) -> usize
     ensures place { result ≡ position_or_len is_point word.now }
     ensures bound { result ≤ length word.now }
