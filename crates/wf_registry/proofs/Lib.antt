@@ -8,3 +8,4 @@ pub mod NamesInLower
 pub mod Registries
 pub mod SameLetters
 pub mod Sharing
+pub mod LinePlaces

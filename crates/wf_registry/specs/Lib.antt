@@ -7,3 +7,4 @@ pub mod LineEntries
 pub mod RegistryErrors
 pub mod Sorts
 pub mod Unknown
+pub mod Places
