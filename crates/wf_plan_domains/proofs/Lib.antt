@@ -1,2 +1,3 @@
 pub mod FirstFound
+pub mod MadeDomains
 pub mod StreamIntervals

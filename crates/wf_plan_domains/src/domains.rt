@@ -1,14 +1,15 @@
 //! The domains that a config asks for, each from those before it.
 
 ghost use Rattle.std.specs.Prelude.{◌≡◌, ◌-◌, ◌≤◌, IfOk, slice_index_or};
-ghost use Rattle.wf_model.specs.PlanDomains.{amount, domain_from, domain_total, domains_to, of_nest, step_seconds};
+ghost use Rattle.wf_model.specs.Dates.{seconds_between};
+ghost use Rattle.wf_model.specs.PlanDomains.{amount, domain_from, domain_total, domains_to, of_nest, start_moment, step_seconds};
 ghost use Rattle.wf_model.specs.Plans.{no_domain};
 
 use crate::numbers::{flag, quotient, small_amount};
-use crate::streams::{frames, intervals, minutes};
+use crate::streams::{frames, intervals};
 use crate::times::start_stamp;
 use std::alloc::{AllocError, Global};
-use wf_model::{Config, Domain, List};
+use wf_model::{Config, Domain};
 use wf_stamp::between;
 
 /// How many domains there are, 1 to 8; any other number counts as want of memory.
@@ -58,6 +59,15 @@ fn step_seconds(config: &Config, before: &[Domain], domain: u32) -> Result<u64, 
     Ok(quotient(seconds_of(before, parent), u64::from(ratio)))
 }
 
+/// The seconds from domain 1's start to a domain's.
+fn begins(config: &Config, domain: u32) -> Result<i64, AllocError>
+    ensures { IfOk result (λ t. t ≡ seconds_between (start_moment config.now 1) (start_moment config.now domain)) }
+{
+    let first = start_stamp(config, 1)?;
+    let own = start_stamp(config, domain)?;
+    Ok(between(&first, &own))
+}
+
 /// A domain, where these come before it.
 fn domain_from(
     alloc: Global,
@@ -68,26 +78,22 @@ fn domain_from(
     ensures { IfOk result (λ d. d ≡ domain_from config.now before.now domain) }
 {
     let seconds = step_seconds(config, before, domain)?;
-    let first_start = start_stamp(config, 1)?;
-    let start = start_stamp(config, domain)?;
-    let minutes = minutes(alloc, config, domain)?;
-    let time_ratio = "parent_time_step_ratio";
     Ok(Domain {
         parent: of_nest(config, domain, 0, "parent_id")?,
         i_start: small_amount(config, "i_parent_start", domain)?,
         j_start: small_amount(config, "j_parent_start", domain)?,
         ratio: of_nest(config, domain, 1, "parent_grid_ratio")?,
-        time_ratio: of_nest(config, domain, 1, time_ratio)?,
+        time_ratio: of_nest(config, domain, 1, "parent_time_step_ratio")?,
         ide: small_amount(config, "e_we", domain)?,
         jde: small_amount(config, "e_sn", domain)?,
         kde: small_amount(config, "e_vert", domain)?,
         seconds,
-        begins: between(&first_start, &start),
+        begins: begins(config, domain)?,
         periodic_x: flag(config, "periodic_x", domain),
         periodic_y: flag(config, "periodic_y", domain),
         from_file: flag(config, "input_from_file", domain),
-        intervals: List::from_vec(intervals(alloc, minutes.as_slice(), seconds)?),
-        frames: List::from_vec(frames(alloc, config, domain)?),
+        intervals: intervals(alloc, config, domain, seconds)?,
+        frames: frames(alloc, config, domain)?,
     })
 }
 

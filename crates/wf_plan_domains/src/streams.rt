@@ -6,7 +6,7 @@ ghost use Rattle.wf_plan_domains.specs.DomainTests.{stream_frames, stream_minute
 
 use crate::numbers::{quotient, small_amount};
 use std::alloc::{AllocError, Global};
-use wf_model::Config;
+use wf_model::{Config, List};
 
 /// The names of the intervals, by stream.
 pub(crate) const INTERVAL_NAMES: [&str; 10] = [
@@ -65,7 +65,7 @@ fn numbers_of(
 }
 
 /// The intervals, by stream, in minutes.
-pub(crate) fn minutes(alloc: Global, config: &Config, domain: u32) -> Result<Vec<u32>, AllocError>
+fn minutes(alloc: Global, config: &Config, domain: u32) -> Result<Vec<u32>, AllocError>
     ensures { IfOk result (λ v. v.items ≡ stream_minutes config.now domain) }
 {
     let names = interval_names();
@@ -73,25 +73,35 @@ pub(crate) fn minutes(alloc: Global, config: &Config, domain: u32) -> Result<Vec
     Ok(numbers)
 }
 
-/// The frames of a file, by stream.
-pub(crate) fn frames(alloc: Global, config: &Config, domain: u32) -> Result<Vec<u32>, AllocError>
-    ensures { IfOk result (λ v. v.items ≡ stream_frames config.now domain) }
-{
-    let names = frames_names();
-    let numbers = numbers_of(alloc, config, &names, domain)?;
-    Ok(numbers)
-}
-
-/// These intervals as numbers of steps of so many seconds; 0 for never.
-pub(crate) fn intervals(
-    alloc: Global,
-    minutes: &[u32],
-    seconds: u64,
-) -> Result<Vec<u64>, AllocError>
+/// Intervals in minutes as numbers of steps of so many seconds.
+fn in_steps(alloc: Global, minutes: &[u32], seconds: u64) -> Result<Vec<u64>, AllocError>
     ensures { IfOk result (λ v. v.items ≡ map (λ m. m * 60 / seconds) minutes.now) }
 {
     minutes
         .iter()
         .map(|m| quotient(u64::from(*m) * 60, seconds))
         .collect(alloc)
+}
+
+/// By stream: a frame after so many steps of so many seconds; 0 for never.
+pub(crate) fn intervals(
+    alloc: Global,
+    config: &Config,
+    domain: u32,
+    seconds: u64,
+) -> Result<List<u64>, AllocError>
+    ensures { IfOk result (λ l. l ≡ map (λ m. m * 60 / seconds) (stream_minutes config.now domain)) }
+{
+    let minutes = minutes(alloc, config, domain)?;
+    let steps = in_steps(alloc, minutes.as_slice(), seconds)?;
+    Ok(List::from_vec(steps))
+}
+
+/// By stream: the frames of a file.
+pub(crate) fn frames(alloc: Global, config: &Config, domain: u32) -> Result<List<u32>, AllocError>
+    ensures { IfOk result (λ l. l ≡ stream_frames config.now domain) }
+{
+    let names = frames_names();
+    let numbers = numbers_of(alloc, config, &names, domain)?;
+    Ok(List::from_vec(numbers))
 }

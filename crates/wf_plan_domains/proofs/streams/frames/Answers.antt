@@ -7,6 +7,6 @@ use Rattle.wf_plan_domains.proofs.streams.frames.Goals as goal
 pub returns : goal.returns
 unfolding stream_frames
 returns c =
-    c.in_ok-numbers.ensures
+    c.from_vec.ensures ∙ c.in_ok-numbers.ensures
     ∙ sym (map_map (λ (n : Bor (List ℕ)). n.now) (λ name. amount c.args.config.now name c.args.domain) c.frames_names-names.result)
     ∙ ap (map (λ name. amount c.args.config.now name c.args.domain)) c.frames_names-names.ensures
