@@ -1,3 +1,5 @@
+pub mod FaultOrder
 pub mod FirstFound
 pub mod MadeDomains
+pub mod StartMoments
 pub mod StreamIntervals

@@ -2,6 +2,9 @@
 use Rattle.std.proofs.Common.{◌≡◌, ℕ, zero, suc, ◌+◌, Bool, List, [], ◌∷◌, ◌++◌, length, ℤ, refl, sym, ap, ap₂, ◌∙◌, add-one, length-append}
 use Rattle.wf_model.specs.declared.config.Config.{Config}
 use Rattle.wf_model.specs.declared.plan.Domain.{Domain}
+use Rattle.wf_model.specs.declared.plan.Field.{Field}
+use Rattle.wf_model.specs.declared.plan.Item.{Item}
+use Rattle.wf_model.specs.declared.plan.Plan.{Plan}
 use Rattle.wf_model.specs.PlanDomains.{domain_from, domains_to}
 
 -- a domain is known by its parts
@@ -35,3 +38,14 @@ unfolding domains_to
 length-domains_to config zero = refl
 length-domains_to config (suc n) =
     length-append (domains_to config n) (domain_from config (domains_to config n) (n + 1) ∷ []) ∙ ap (λ m. m + 1) (length-domains_to config n) ∙ add-one n
+
+-- a plan is known by its parts
+pub same_plan : {domains domains' : List Domain} {fields fields' : List Field} {items items' : List Item} {start start' : List ℕ} {steps steps' restart_steps restart_steps' : ℕ} {restart restart' feedback feedback' : Bool}
+    {bdy_width bdy_width' : ℕ}
+    → domains ≡ domains' → fields ≡ fields' → items ≡ items' → start ≡ start' → steps ≡ steps' → restart_steps ≡ restart_steps' → restart ≡ restart' → feedback ≡ feedback' → bdy_width ≡ bdy_width'
+    → (let p : Plan = record {
+         domains = domains; fields = fields; items = items; start = start; steps = steps; restart_steps = restart_steps; restart = restart; feedback = feedback; bdy_width = bdy_width; version = 1;
+       } in p) ≡ record {
+         domains = domains'; fields = fields'; items = items'; start = start'; steps = steps'; restart_steps = restart_steps'; restart = restart'; feedback = feedback'; bdy_width = bdy_width'; version = 1;
+       }
+same_plan a b c d e f g h i = cc

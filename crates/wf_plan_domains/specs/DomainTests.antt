@@ -1,5 +1,5 @@
 -- The tests of domains and times, by the kinds that the code knows.
-use Rattle.std.specs.Prelude.{ℕ, Bool, List, map, Option}
+use Rattle.std.specs.Prelude.{ℕ, Bool, List, ◌++◌, map, Option}
 use Rattle.wf_model.specs.declared.namelist.Value.{Value}
 use Rattle.wf_model.specs.declared.config.Config.{Config}
 use Rattle.wf_model.specs.declared.plan.Domain.{Domain}
@@ -74,3 +74,14 @@ nest_fault test.Start = start_fault
 -- of the first nest that has one
 abbrev pub nests_fault : NestTest → Plan → Option PlanFault
 nests_fault t plan = first_fault (map (nest_fault t plan) (nests_of plan))
+
+-- the first fault of a nest that is judged before the run's length
+unfoldable pub nests_found : Plan → Option PlanFault
+nests_found plan =
+    let nests = nests_of plan in
+    first_fault (map (parent_fault plan) nests
+    ++ map (ratio_fault plan) nests
+    ++ map (size_fault plan) nests
+    ++ map (edge_fault plan) nests
+    ++ map (periodic_fault plan) nests
+    ++ map (step_fault plan) nests)

@@ -7,6 +7,7 @@ ghost use Rattle.wf_model.specs.PlanTests.{domain_faults};
 ghost use Rattle.wf_model.specs.Reading.{Gives, first_fault};
 ghost use Rattle.wf_plan_domains.specs.DomainErrors.{fault_of};
 ghost use Rattle.wf_plan_domains.specs.DomainPlans.{domain_plan_from, domain_plan_of};
+ghost use Rattle.wf_plan_domains.specs.DomainTests.{nests_found};
 
 use crate::built::unbuilt_fault;
 use crate::domains::{domain_total, domains_to};
@@ -55,6 +56,7 @@ fn plan_from(alloc: Global, config: &Config, total: u32) -> Result<Plan, AllocEr
 fn nests_before_run(plan: &Plan, total: u32) -> Option<PlanFault>
     requires count { total ≡ length plan.now.domains }
     requires most { total ≤ 8 }
+    ensures { result ≡ nests_found plan.now }
 {
     nests_fault(NestTest::Parent, plan, total)
         .or(nests_fault(NestTest::Ratio, plan, total))
