@@ -3,3 +3,4 @@ pub mod FirstFound
 pub mod MadeDomains
 pub mod StartMoments
 pub mod StreamIntervals
+pub mod WholePlans

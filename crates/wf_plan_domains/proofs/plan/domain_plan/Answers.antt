@@ -1,5 +1,4 @@
 use Rattle.std.proofs.Common.{◌≡◌, None, rules, sym, ◌∙◌}
-use Rattle.wf_plan_domains.specs.DomainTests.{unbuilt_found}
 use Rattle.wf_plan_domains.proofs.FaultOrder.{accepted, count_is, refused_date, refused_test, refused_unbuilt}
 use Rattle.wf_plan_domains.proofs.plan.domain_plan.Goals as goal
 
