@@ -36,7 +36,7 @@ eleven dates p r s e q t starts intervals end run = simp (first_fault-append, or
 -- what the tests of domains and times find, by groups
 pub found : (config : Config) (plan : Plan)
     → grouped (first_fault (map (date_fault config) (domains_of plan))) (end_fault config) (nests_found plan) (run_fault config plan) (first_fault (map (start_fault plan) (nests_of plan)))
-      (first_fault (flat_map (interval_faults config plan) (domains_of plan)))
+    (first_fault (flat_map (interval_faults config plan) (domains_of plan)))
     ≡ first_fault (domain_faults config plan)
 unfolding domain_faults nests_found
 found config plan =
@@ -48,9 +48,6 @@ found config plan =
 pub total_is : (config : Config) → length (domain_plan_from config).domains ≡ domain_total config
 unfolding domain_plan_from
 total_is config = length-domains_to config (domain_total config)
-
-pub count_is : (config : Config) (plan : Plan) (total : ℕ) → plan ≡ domain_plan_from config → total ≡ domain_total config → total ≡ length plan.domains
-count_is config plan total made is = is ∙ sym (total_is config) ∙ ap (λ (p : Plan). length p.domains) (sym made)
 
 judged : (config : Config) → domain_plan_of config ≡ unless_fault (option_or (unbuilt_found config) (first_fault (domain_faults config (domain_plan_from config)))) (domain_plan_from config)
 unfolding domain_plan_of unbuilt_found

@@ -13,12 +13,38 @@ pub same_domain : {parent parent' i_start i_start' j_start j_start' ratio ratio'
     → parent ≡ parent' → i_start ≡ i_start' → j_start ≡ j_start' → ratio ≡ ratio' → time_ratio ≡ time_ratio' → ide ≡ ide' → jde ≡ jde' → kde ≡ kde' → seconds ≡ seconds' → begins ≡ begins'
     → periodic_x ≡ periodic_x' → periodic_y ≡ periodic_y' → from_file ≡ from_file' → intervals ≡ intervals' → frames ≡ frames'
     → (let d : Domain = record {
-         parent = parent; i_start = i_start; j_start = j_start; ratio = ratio; time_ratio = time_ratio; ide = ide; jde = jde; kde = kde; seconds = seconds; begins = begins;
-         periodic_x = periodic_x; periodic_y = periodic_y; from_file = from_file; intervals = intervals; frames = frames;
-       } in d) ≡ record {
-         parent = parent'; i_start = i_start'; j_start = j_start'; ratio = ratio'; time_ratio = time_ratio'; ide = ide'; jde = jde'; kde = kde'; seconds = seconds'; begins = begins';
-         periodic_x = periodic_x'; periodic_y = periodic_y'; from_file = from_file'; intervals = intervals'; frames = frames';
-       }
+      parent = parent;
+      i_start = i_start;
+      j_start = j_start;
+      ratio = ratio;
+      time_ratio = time_ratio;
+      ide = ide;
+      jde = jde;
+      kde = kde;
+      seconds = seconds;
+      begins = begins;
+      periodic_x = periodic_x;
+      periodic_y = periodic_y;
+      from_file = from_file;
+      intervals = intervals;
+      frames = frames;
+    } in d) ≡ record {
+      parent = parent';
+      i_start = i_start';
+      j_start = j_start';
+      ratio = ratio';
+      time_ratio = time_ratio';
+      ide = ide';
+      jde = jde';
+      kde = kde';
+      seconds = seconds';
+      begins = begins';
+      periodic_x = periodic_x';
+      periodic_y = periodic_y';
+      from_file = from_file';
+      intervals = intervals';
+      frames = frames';
+    }
 same_domain a b c d e f g h i j k l m n o = cc
 
 -- no domain is made yet
@@ -44,8 +70,26 @@ pub same_plan : {domains domains' : List Domain} {fields fields' : List Field} {
     {bdy_width bdy_width' : ℕ}
     → domains ≡ domains' → fields ≡ fields' → items ≡ items' → start ≡ start' → steps ≡ steps' → restart_steps ≡ restart_steps' → restart ≡ restart' → feedback ≡ feedback' → bdy_width ≡ bdy_width'
     → (let p : Plan = record {
-         domains = domains; fields = fields; items = items; start = start; steps = steps; restart_steps = restart_steps; restart = restart; feedback = feedback; bdy_width = bdy_width; version = 1;
-       } in p) ≡ record {
-         domains = domains'; fields = fields'; items = items'; start = start'; steps = steps'; restart_steps = restart_steps'; restart = restart'; feedback = feedback'; bdy_width = bdy_width'; version = 1;
-       }
+      domains = domains;
+      fields = fields;
+      items = items;
+      start = start;
+      steps = steps;
+      restart_steps = restart_steps;
+      restart = restart;
+      feedback = feedback;
+      bdy_width = bdy_width;
+      version = 1;
+    } in p) ≡ record {
+      domains = domains';
+      fields = fields';
+      items = items';
+      start = start';
+      steps = steps';
+      restart_steps = restart_steps';
+      restart = restart';
+      feedback = feedback';
+      bdy_width = bdy_width';
+      version = 1;
+    }
 same_plan a b c d e f g h i = cc

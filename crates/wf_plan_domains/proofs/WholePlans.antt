@@ -58,9 +58,9 @@ unfolding plan_of plan_faults
 parts config hooks items =
     ap (λ p. unless_fault (first_fault (map (unbuilt_fault config) unbuilt ++ domain_faults config p ++ item_faults p (z_extents config))) p) (plan_from-domains config hooks items)
     ∙ ap (λ d. unless_fault (first_fault (map (unbuilt_fault config) unbuilt ++ d ++ item_faults (whole_of config hooks items (domain_plan_from config)) (z_extents config))) (whole_of config hooks items (domain_plan_from config)))
-      (domain_faults-with_items config (domain_plan_from config) (fields_from config hooks 0 config.fields) items)
+    (domain_faults-with_items config (domain_plan_from config) (fields_from config hooks 0 config.fields) items)
     ∙ ap (λ f. unless_fault f (whole_of config hooks items (domain_plan_from config)))
-      (first_fault-append (map (unbuilt_fault config) unbuilt ++ domain_faults config (domain_plan_from config)) (item_faults (whole_of config hooks items (domain_plan_from config)) (z_extents config)))
+    (first_fault-append (map (unbuilt_fault config) unbuilt ++ domain_faults config (domain_plan_from config)) (item_faults (whole_of config hooks items (domain_plan_from config)) (z_extents config)))
 
 -- a fault of domains and times is the plan's
 pub plan_of-refused : (config : Config) (hooks : List HookName) (items : List Item) (f : PlanFault) → domain_plan_of config ≡ Err f → plan_of config hooks items ≡ Err f

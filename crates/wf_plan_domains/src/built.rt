@@ -147,10 +147,7 @@ fn first_fault(
 }
 
 /// The first feature that isn't built and that the config asks for.
-pub(crate) fn unbuilt_fault(
-    alloc: Global,
-    config: &Config,
-) -> Result<Option<PlanFault>, AllocError>
+pub(crate) fn unbuilt_fault(alloc: Global, config: &Config) -> Result<Option<PlanFault>, AllocError>
     ensures { IfOk result (λ f. f ≡ unbuilt_found config.now) }
 {
     let features = features();

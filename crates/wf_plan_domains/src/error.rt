@@ -33,7 +33,7 @@ impl PlanError {
 }
 
 /// The name of a fault's kind.
-fn kind(fault: &PlanFault) -> &'static str {
+pub(crate) fn kind(fault: &PlanFault) -> &'static str {
     match fault {
         PlanFault::NotBuilt { name: _ } => "NotBuilt",
         PlanFault::BadDate { domain: _ } => "BadDate",

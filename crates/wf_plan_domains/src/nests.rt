@@ -119,8 +119,7 @@ fn start_fault(plan: &Plan, nest: u32) -> Option<PlanFault>
 {
     let own = shape_at(plan, nest);
     let parent = shape_at(plan, own.parent);
-    let is_before_parent =
-        counted_start(plan, own.begins) < counted_start(plan, parent.begins);
+    let is_before_parent = counted_start(plan, own.begins) < counted_start(plan, parent.begins);
     if !is_step(own.begins, parent.seconds)
         || is_before_parent
         || (!plan.restart && own.begins < 0)

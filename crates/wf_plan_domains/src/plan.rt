@@ -32,9 +32,10 @@ fn start_text(config: &Config) -> Result<[u8; 19], AllocError>
 }
 
 /// What the config says of domains and times, sound or not, where it has so many domains.
-fn plan_from(alloc: Global, config: &Config, total: u32) -> Result<Plan, AllocError>
+pub(crate) fn plan_from(alloc: Global, config: &Config, total: u32) -> Result<Plan, AllocError>
     requires { total ≡ domain_total config.now }
-    ensures { IfOk result (λ p. p ≡ domain_plan_from config.now) }
+    ensures value { IfOk result (λ p. p ≡ domain_plan_from config.now) }
+    ensures count { IfOk result (λ p. total ≡ length p.domains) }
 {
     let step = u64::from(small_amount(config, "time_step", 1)?);
     let restart_minutes = u64::from(small_amount(config, "restart_interval", 1)?);
@@ -52,7 +53,7 @@ fn plan_from(alloc: Global, config: &Config, total: u32) -> Result<Plan, AllocEr
     })
 }
 
-/// The first fault that a test of all nests finds, but that of starts.
+/// The first fault of a nest but those of its start, which comes behind the length of the run.
 fn nests_before_run(plan: &Plan, total: u32) -> Option<PlanFault>
     requires count { total ≡ length plan.now.domains }
     requires most { total ≤ 8 }
@@ -67,7 +68,7 @@ fn nests_before_run(plan: &Plan, total: u32) -> Option<PlanFault>
 }
 
 /// The first fault of domains and times.
-fn domains_fault(
+pub(crate) fn domains_fault(
     config: &Config,
     plan: &Plan,
     total: u32,
@@ -79,15 +80,31 @@ fn domains_fault(
     let end = end_fault(config)?;
     let run = run_fault(config, plan)?;
     let intervals = intervals_fault(config, plan, total)?;
-    Ok(dates_fault(config, total)
-        .or(end)
-        .or(nests_before_run(plan, total))
-        .or(run)
-        .or(nests_fault(NestTest::Start, plan, total))
-        .or(intervals))
+    Ok(
+        dates_fault(config, total)
+            .or(end)
+            .or(nests_before_run(plan, total))
+            .or(run)
+            .or(nests_fault(NestTest::Start, plan, total))
+            .or(intervals),
+    )
 }
 
-/// The plan of a config without field levels and items, or the first fault of its domains and times.
+/// The plan of a config without field levels and items: its domains, its start and its numbers of steps; or the first
+/// fault.
+///
+/// Domains are numbered from 1, and streams from 0, where 10 stands for restart files. Steps and starts are in seconds,
+/// the intervals of a config in minutes. A nest's step is its parent's by the ratio of their steps.
+///
+/// The faults come in this order, each of the first domain that has it: what isn't built yet (nests, restart, auxiliary
+/// streams); a start at no day of the years 1 to 9999; a run that ends past the year 9999; of nests a parent that is no
+/// domain before, an even ratio, a size that fills no whole cells of the parent or another number of levels, a place at
+/// the parent's edge, a periodic direction, a step that doesn't fill the parent's; a run that steps don't fill; a nest's
+/// start at no step of its parent, before its parent's start, or without restart before domain 1's; and an interval that
+/// steps don't fill, the restart files' behind the streams of domain 1. These rules are this project's own.
+///
+/// Want of memory may also be told where max_dom isn't 1 to 8, a number passes 32 bits, or an hour, minute or second is
+/// none of a clock, which no config that was bound has.
 pub fn domain_plan(alloc: Global, config: &Config) -> Result<Plan, PlanError>
     ensures { Gives (λ p. p) fault_of result (domain_plan_of config.now) }
 {

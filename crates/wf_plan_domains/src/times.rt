@@ -87,10 +87,12 @@ pub(crate) fn run_seconds(config: &Config) -> Result<u64, AllocError>
     let hours = small_amount(config, "run_hours", 1)?;
     let minutes = small_amount(config, "run_minutes", 1)?;
     let seconds = small_amount(config, "run_seconds", 1)?;
-    Ok(u64::from(days) * 86400
-        + u64::from(hours) * 3600
-        + u64::from(minutes) * 60
-        + u64::from(seconds))
+    Ok(
+        u64::from(days) * 86400
+            + u64::from(hours) * 3600
+            + u64::from(minutes) * 60
+            + u64::from(seconds),
+    )
 }
 
 /// The fault of a run that ends past the year 9999.

@@ -1,5 +1,5 @@
 use Rattle.std.proofs.Common.{◌≡◌, None, rules, sym, ◌∙◌}
-use Rattle.wf_plan_domains.proofs.FaultOrder.{accepted, count_is, refused_date, refused_test, refused_unbuilt}
+use Rattle.wf_plan_domains.proofs.FaultOrder.{accepted, refused_date, refused_test, refused_unbuilt}
 use Rattle.wf_plan_domains.proofs.plan.domain_plan.Goals as goal
 
 pub returns-in-Some : goal.returns-in-Some
@@ -10,16 +10,12 @@ returns-in-Some-dates c =
     let built : None ≡ c.in_ok-unbuilt.unbuilt = search rules in
     refused_date c.args.config.now c.in_ok-total.total c.in-Some-dates.fault (built ∙ c.in_ok-unbuilt.ensures) c.in_ok-total.ensures.total (sym c.in-Some-dates.is ∙ c.dates_fault-dates.ensures)
 
-pub domains_fault-requires-clause-count : goal.domains_fault-requires-clause-count
-domains_fault-requires-clause-count c =
-    count_is c.args.config.now c.in_ok-plan.plan c.in_ok-total.total c.in_ok-plan.ensures c.in_ok-total.ensures.total
-
 pub returns-in-Some-fault : goal.returns-in-Some-fault
 returns-in-Some-fault c =
     let built : None ≡ c.in_ok-unbuilt.unbuilt = search rules in
-    refused_test c.args.config.now c.in_ok-plan.plan c.in-Some-fault.fault (built ∙ c.in_ok-unbuilt.ensures) c.in_ok-plan.ensures (sym c.in-Some-fault.is ∙ c.in_ok-fault.ensures)
+    refused_test c.args.config.now c.in_ok-plan.plan c.in-Some-fault.fault (built ∙ c.in_ok-unbuilt.ensures) c.in_ok-plan.ensures.value (sym c.in-Some-fault.is ∙ c.in_ok-fault.ensures)
 
 pub returns-in-None : goal.returns-in-None
 returns-in-None c =
     let built : None ≡ c.in_ok-unbuilt.unbuilt = search rules in
-    accepted c.args.config.now c.in_ok-plan.plan (built ∙ c.in_ok-unbuilt.ensures) c.in_ok-plan.ensures (sym c.in-None.is ∙ c.in_ok-fault.ensures)
+    accepted c.args.config.now c.in_ok-plan.plan (built ∙ c.in_ok-unbuilt.ensures) c.in_ok-plan.ensures.value (sym c.in-None.is ∙ c.in_ok-fault.ensures)
