@@ -1,0 +1,3 @@
+pub mod DomainErrors
+pub mod DomainPlans
+pub mod DomainTests
