@@ -15,24 +15,24 @@ use Rattle.wf_model.specs.Sizes.{file_size, most_bytes}
 use Rattle.wf_model.specs.Counts.{file_records, stream_bytes, own_steps, due_steps}
 use Rattle.wf_model.specs.Reading.{fault_if}
 use Rattle.wf_model.specs.PlanTests.{file_fault}
-use Rattle.wf_plan_limits.specs.ScriptCount.{IsAlone}
+use Rattle.wf_plan_limits.specs.ScriptCount.{HasOneDomain}
 
 -- the steps of the only domain are the run's
-own_steps-alone : (plan : Plan) → IsAlone plan → own_steps plan 1 ≡ plan.steps
-own_steps-alone plan alone =
+own_steps-all : (plan : Plan) → HasOneDomain plan → own_steps plan 1 ≡ plan.steps
+own_steps-all plan single =
     let whole : plan.steps * (domain_of plan 1).seconds - 0 ≡ plan.steps * (domain_of plan 1).seconds = omega arith in
-    (λ i. (plan.steps * (domain_of plan 1).seconds - not_before (alone.begins i)) / (domain_of plan 1).seconds)
+    (λ i. (plan.steps * (domain_of plan 1).seconds - not_before (single.begins i)) / (domain_of plan 1).seconds)
     ∙ ap (λ (n : ℕ). n / (domain_of plan 1).seconds) whole
-    ∙ mul-div_cancel plan.steps alone.seconds
+    ∙ mul-div_cancel plan.steps single.seconds
 
 -- the records of a file of a stream that is not that of restart files
-pub records-of_stream : (plan : Plan) (stream : ℕ) (due frames : ℕ) → IsAlone plan → (stream ≡ 10 → ⊥)
+pub records-of_stream : (plan : Plan) (stream : ℕ) (due frames : ℕ) → HasOneDomain plan → (stream ≡ 10 → ⊥)
     → due ≡ due_steps (slice_index (domain_of plan 1).intervals stream) plan.steps → frames ≡ slice_index (domain_of plan 1).frames stream
     → file_records plan 1 stream ≡ min frames (1 + due)
-records-of_stream plan stream due frames alone other due_is frames_is =
+records-of_stream plan stream due frames single other due_is frames_is =
     let history : (stream == 10) ≡ false = grind (arith, nat_tests) in
     (λ i. if history i then 1 else min (if history i then 1 else slice_index (domain_of plan 1).frames stream) (1 + due_steps (slice_index (domain_of plan 1).intervals stream) (own_steps plan 1)))
-    ∙ (λ i. min (sym frames_is i) (1 + due_steps (slice_index (domain_of plan 1).intervals stream) (own_steps-alone plan alone i)))
+    ∙ (λ i. min (sym frames_is i) (1 + due_steps (slice_index (domain_of plan 1).intervals stream) (own_steps-all plan single i)))
     ∙ (λ i. min frames (1 + sym due_is i))
 
 not-past : (m n m' n' : ℕ) → m' ≡ m → n' ≡ n → (m' < n' → ⊥) → nat_lt m n ≡ false

@@ -15,7 +15,7 @@ use Rattle.wf_model.specs.Plans.{domain_of, begin_of, children, domains_of, up_t
 use Rattle.wf_model.specs.Script.{entry, step_of, script_of, steps_by, begin_time, start_frames, due_frames, restart_frames, restart_stream, table, interval, is_due, not_before}
 use Rattle.wf_model.specs.Streams.{one_if}
 use Rattle.wf_model.specs.Counts.{fresh_begin, fresh_begins, fresh_script, due_steps, more_restarts, own_steps, script_items}
-use Rattle.wf_plan_limits.specs.ScriptCount.{IsAlone, stream_frames, frame_count, script_count}
+use Rattle.wf_plan_limits.specs.ScriptCount.{HasOneDomain, stream_frames, frame_count, script_count}
 use Rattle.wf_plan_limits.proofs.Sums.{sum_by-both, sum_by-same, sum_by-zeros, length-filter_sum, sum_by-range}
 use Rattle.wf_plan_limits.proofs.Due.{due_steps-more, due_steps-zero}
 
@@ -29,15 +29,15 @@ begins-fresh : (plan : Plan) → length plan.domains ≡ 1 → begin_of (fresh_b
 unfolding begin_of
 begins-fresh plan one = λ i. begin_of (map (λ d. fresh_begin) (up_to (one i))) 1
 
-module _ (plan : Plan) (alone : IsAlone plan) where
+module _ (plan : Plan) (single : HasOneDomain plan) where
   abbrev seconds : ℕ
   seconds = (domain_of plan 1).seconds
 
   fresh : begin_of (fresh_begins plan) 1 ≡ fresh_begin
-  fresh = begins-fresh plan alone.one
+  fresh = begins-fresh plan single.one
 
   begin_time-0 : begin_time plan (fresh_begins plan) 1 ≡ 0
-  begin_time-0 = λ i. if (fresh i).resumed then 0 else not_before (alone.begins i)
+  begin_time-0 = λ i. if (fresh i).resumed then 0 else not_before (single.begins i)
 
   -- the steps behind domain 1 at the time of a step
   step-number : (n : ℕ) → steps_by plan (fresh_begins plan) 1 (n * seconds) ≡ n
@@ -45,7 +45,7 @@ module _ (plan : Plan) (alone : IsAlone plan) where
       let whole : n * (domain_of plan 1).seconds - 0 ≡ n * (domain_of plan 1).seconds = omega arith in
       (λ i. (fresh i).steps + (n * seconds - begin_time-0 i) / seconds)
       ∙ (λ i. 0 + whole i / seconds)
-      ∙ ap (λ (k : ℕ). 0 + k) (mul-div_cancel n alone.seconds)
+      ∙ ap (λ (k : ℕ). 0 + k) (mul-div_cancel n single.seconds)
       ∙ omega arith
 
   -- the items of the table
@@ -68,23 +68,23 @@ module _ (plan : Plan) (alone : IsAlone plan) where
   length-restart : (step t : ℕ) → 0 < t → length (restart_frames plan (fresh_begins plan) step t) ≡ one_if (is_due plan.restart_steps step)
   length-restart step t after =
       ap (λ (ds : List ℕ). length (if is_due plan.restart_steps step then map (λ d. entry d (steps_by plan (fresh_begins plan) d t) t (Emit restart_stream)) ds else [])) all
-      ∙ single (is_due plan.restart_steps step) (entry 1 (steps_by plan (fresh_begins plan) 1 t) t (Emit restart_stream))
+      ∙ one_or_none (is_due plan.restart_steps step) (entry 1 (steps_by plan (fresh_begins plan) 1 t) t (Emit restart_stream))
     where
       all : filter (λ d. (begin_of (fresh_begins plan) d).resumed || nat_lt (begin_time plan (fresh_begins plan) d) t) (domains_of plan) ≡ 1 ∷ []
       all =
-          (λ i. filter (λ d. (begin_of (fresh_begins plan) d).resumed || nat_lt (begin_time plan (fresh_begins plan) d) t) (up_to (alone.one i)))
+          (λ i. filter (λ d. (begin_of (fresh_begins plan) d).resumed || nat_lt (begin_time plan (fresh_begins plan) d) t) (up_to (single.one i)))
           ∙ (λ i. if there t after i then 1 ∷ [] else [])
 
-      single : (b : Bool) (e : Entry) → length (if b then e ∷ [] else []) ≡ one_if b
-      single true e = refl
-      single false e = refl
+      one_or_none : (b : Bool) (e : Entry) → length (if b then e ∷ [] else []) ≡ one_if b
+      one_or_none true e = refl
+      one_or_none false e = refl
 
   -- one step, by its parts
   step-parts : (t : ℕ) → step_of plan (fresh_begins plan) 1 1 t ≡
       (((([] ++ table plan (fresh_begins plan) 1 (steps_by plan (fresh_begins plan) 1 t + 1) t) ++ []) ++ due_frames plan (fresh_begins plan) 1 (steps_by plan (fresh_begins plan) 1 t + 1) (t + (domain_of plan 1).seconds))
       ++ restart_frames plan (fresh_begins plan) (steps_by plan (fresh_begins plan) 1 t + 1) (t + (domain_of plan 1).seconds))
   unfolding step_of
-  step-parts t = let none : children plan 1 ≡ [] = childless plan alone.one in rw none refl
+  step-parts t = let none : children plan 1 ≡ [] = childless plan single.one in rw none refl
 
   abbrev due_streams : ℕ → ℕ
   due_streams step = sum_by (λ s. one_if (is_due (slice_index (domain_of plan 1).intervals s) step)) (range_with_len 0 10)
@@ -105,7 +105,7 @@ module _ (plan : Plan) (alone : IsAlone plan) where
       ∙ length-append ((([] ++ items) ++ []) ++ due) restart
       ∙ ap (λ (k : ℕ). k + length restart) (length-append (([] ++ items) ++ []) due)
       ∙ ap (λ (k : ℕ). k + length due + length restart) (ap length (append-nil ([] ++ items)))
-      ∙ (λ i. length-table step t i + length-due step (n * seconds + seconds) i + length-restart step (n * seconds + seconds) (omega (arith, alone.seconds)) i)
+      ∙ (λ i. length-table step t i + length-due step (n * seconds + seconds) i + length-restart step (n * seconds + seconds) (omega (arith, single.seconds)) i)
       ∙ ap step_items number
 
   -- what there is after so many steps, but for the frames at the start
@@ -114,14 +114,20 @@ module _ (plan : Plan) (alone : IsAlone plan) where
 
   items-grow : (n : ℕ) → items_after (suc n) ≡ items_after n + step_items (suc n)
   items-grow n =
-      omega (arith, due_steps-more plan.restart_steps n,
-      sum_by-both (λ s. due_steps (slice_index (domain_of plan 1).intervals s) (suc n)) (λ s. due_steps (slice_index (domain_of plan 1).intervals s) n) (λ s. one_if (is_due (slice_index (domain_of plan 1).intervals s) (suc n))) (range_with_len 0 10)
-      (λ s. due_steps-more (slice_index (domain_of plan 1).intervals s) n))
+      omega (
+        arith,
+        due_steps-more plan.restart_steps n,
+        sum_by-both (λ s. due_steps (slice_index (domain_of plan 1).intervals s) (suc n)) (λ s. due_steps (slice_index (domain_of plan 1).intervals s) n) (λ s. one_if (is_due (slice_index (domain_of plan 1).intervals s) (suc n))) (range_with_len 0 10)
+            (λ s. due_steps-more (slice_index (domain_of plan 1).intervals s) n),
+      )
 
   items-none : items_after 0 ≡ 0
   items-none =
-      omega (arith, due_steps-zero plan.restart_steps,
-      sum_by-zeros (λ s. due_steps (slice_index (domain_of plan 1).intervals s) 0) (range_with_len 0 10) (λ s. due_steps-zero (slice_index (domain_of plan 1).intervals s)))
+      omega (
+        arith,
+        due_steps-zero plan.restart_steps,
+        sum_by-zeros (λ s. due_steps (slice_index (domain_of plan 1).intervals s) 0) (range_with_len 0 10) (λ s. due_steps-zero (slice_index (domain_of plan 1).intervals s)),
+      )
 
   length-steps : (n : ℕ) → length (flat_map (λ k. step_of plan (fresh_begins plan) 1 1 (k * seconds)) (range_with_len 0 n)) ≡ items_after n
   length-steps n =
@@ -138,15 +144,15 @@ module _ (plan : Plan) (alone : IsAlone plan) where
   unfolding fresh_script script_of script_count
   length-script =
       let start : List Entry = start_frames plan (fresh_begins plan) 1 0 in
-      (λ i. length ((if (fresh i).resumed then [] else start_frames plan (fresh_begins plan) 1 0) ++ flat_map (λ n. step_of plan (fresh_begins plan) (alone.one i) 1 (n * (domain_of plan 1).seconds)) (range_with_len 0 plan.steps)))
+      (λ i. length ((if (fresh i).resumed then [] else start_frames plan (fresh_begins plan) 1 0) ++ flat_map (λ n. step_of plan (fresh_begins plan) (single.one i) 1 (n * (domain_of plan 1).seconds)) (range_with_len 0 plan.steps)))
       ∙ length-append (start_frames plan (fresh_begins plan) 1 0) (flat_map (λ n. step_of plan (fresh_begins plan) 1 1 (n * (domain_of plan 1).seconds)) (range_with_len 0 plan.steps))
       ∙ omega (arith, length-start, length-steps plan.steps, length-frames)
 
 -- the items of the script, by their parts
-pub script_items-alone : (plan : Plan) → IsAlone plan → (table frames due more : ℕ) → table ≡ length plan.items * plan.steps → frames ≡ frame_count plan
+pub script_items-parts : (plan : Plan) → HasOneDomain plan → (table frames due more : ℕ) → table ≡ length plan.items * plan.steps → frames ≡ frame_count plan
     → due ≡ due_steps plan.restart_steps plan.steps → more ≡ more_restarts plan → table + (frames + (due + more)) ≡ script_items plan
 unfolding script_count
-script_items-alone plan alone table frames due more table_is frames_are due_are more_are = omega (arith, length-script plan alone, table_is, frames_are, due_are, more_are)
+script_items-parts plan single table frames due more table_is frames_are due_are more_are = omega (arith, length-script plan single, table_is, frames_are, due_are, more_are)
 
 -- ---- a plan without a domain has no script
 
@@ -162,8 +168,8 @@ pub no-script : (plan : Plan) → length plan.domains ≡ 0 → script_items pla
 unfolding fresh_script script_of step_of begin_of domain_of no_begin no_domain
 no-script plan none =
     let steps : flat_map (λ n. step_of plan (fresh_begins plan) (length plan.domains) 1 (n * (domain_of plan 1).seconds)) (range_with_len 0 plan.steps) ≡ []
-        = (λ i. flat_map (λ n. step_of plan (fresh_begins plan) (none i) 1 (n * (domain_of plan 1).seconds)) (range_with_len 0 plan.steps))
-        ∙ nothing_of (λ n. step_of plan (fresh_begins plan) 0 1 (n * (domain_of plan 1).seconds)) (range_with_len 0 plan.steps) (λ n. refl) in
+    = (λ i. flat_map (λ n. step_of plan (fresh_begins plan) (none i) 1 (n * (domain_of plan 1).seconds)) (range_with_len 0 plan.steps))
+    ∙ nothing_of (λ n. step_of plan (fresh_begins plan) 0 1 (n * (domain_of plan 1).seconds)) (range_with_len 0 plan.steps) (λ n. refl) in
     let resumed : (begin_of (fresh_begins plan) 1).resumed ≡ false = λ i. (begin_of (map (λ d. fresh_begin) (up_to (none i))) 1).resumed in
     let start : start_frames plan (fresh_begins plan) 1 0 ≡ [] = λ i. map (λ s. entry 1 0 0 (Emit s)) (filter (λ s. nat_lt 0 (slice_index (slice_index_or (empty plan.domains none i) 0 no_domain).intervals s)) (range_with_len 0 10)) in
     (λ i. length ((if resumed i then [] else start i) ++ steps i) + more i)

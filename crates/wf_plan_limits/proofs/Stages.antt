@@ -71,8 +71,8 @@ pub limit_faults-parts : (plan : Plan) (zs : List ℤ) → size_faults plan zs +
 limit_faults-parts plan zs = append_assoc (levels_limit plan ∷ map extent_fault zs) (cells_limit plan ∷ []) (run_faults plan)
 
 -- of a plan of one domain, its files are those of domain 1
-pub run_faults-alone : (plan : Plan) → length plan.domains ≡ 1 → first_fault (run_faults plan) ≡ option_or (script_limit plan) (first_fault (files_of plan 1))
-run_faults-alone plan one = λ i. option_or (script_limit plan) (first_fault (flat_map (files_of plan) (up_to (one i))))
+pub run_faults-one : (plan : Plan) → length plan.domains ≡ 1 → first_fault (run_faults plan) ≡ option_or (script_limit plan) (first_fault (files_of plan 1))
+run_faults-one plan one = λ i. option_or (script_limit plan) (first_fault (flat_map (files_of plan) (up_to (one i))))
 
 -- a plan without a domain has neither script nor files
 pub run_faults-none : (plan : Plan) → length plan.domains ≡ 0 → first_fault (run_faults plan) ≡ None

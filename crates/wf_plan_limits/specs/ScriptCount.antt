@@ -7,7 +7,7 @@ use Rattle.wf_model.specs.Streams.{one_if}
 use Rattle.wf_model.specs.Counts.{due_steps}
 
 -- one domain, which begins at the run's start, and whose steps take a second at least
-pub record IsAlone (plan : Plan) : Type 0 where
+pub record HasOneDomain (plan : Plan) : Type 0 where
   pub one : length plan.domains ≡ 1
   pub begins : (domain_of plan 1).begins ≡ pos 0
   pub seconds : 1 ≤ (domain_of plan 1).seconds

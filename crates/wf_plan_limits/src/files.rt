@@ -7,7 +7,7 @@ ghost use Rattle.wf_model.specs.Counts.{file_records};
 ghost use Rattle.wf_model.specs.Ranges.{IsRangedField};
 ghost use Rattle.wf_model.specs.Reading.{first_fault};
 ghost use Rattle.wf_model.specs.PlanTests.{file_fault};
-ghost use Rattle.wf_plan_limits.specs.ScriptCount.{IsAlone};
+ghost use Rattle.wf_plan_limits.specs.ScriptCount.{HasOneDomain};
 
 use crate::limits::{Found, as_limit};
 use crate::ranged::are_ranged;
@@ -24,7 +24,7 @@ const STREAMS: u32 = 11;
 
 /// The most frames that a file of a stream takes.
 fn frames_per_file(plan: &Plan, stream: u32) -> u32
-    requires { IsAlone plan.now }
+    requires { HasOneDomain plan.now }
     ensures { result ≡ slice_index (domain_of plan.now 1).frames stream }
 {
     let frames = first_domain(plan).frames.as_slice();
@@ -33,7 +33,7 @@ fn frames_per_file(plan: &Plan, stream: u32) -> u32
 
 /// The records of a file of a stream: the lesser of the frames that it takes, and one more than the run's due steps.
 fn file_records(plan: &Plan, stream: u32) -> u32
-    requires { IsAlone plan.now }
+    requires { HasOneDomain plan.now }
     ensures { result ≡ file_records plan.now 1 stream }
 {
     if stream == RESTART {
@@ -41,13 +41,17 @@ fn file_records(plan: &Plan, stream: u32) -> u32
     }
     let due = due_steps(interval(first_domain(plan), stream as usize), plan.steps);
     let most = frames_per_file(plan, stream);
-    if due < u64::from(most) { due as u32 + 1 } else { most }
+    if due < u64::from(most) {
+        due as u32 + 1
+    } else {
+        most
+    }
 }
 
 /// The size of a stream's files, where it passes the limit of the version. A header that can't be placed counts as want
 /// of memory.
 fn file_fault(alloc: Global, plan: &Plan, stream: u32) -> Found
-    requires alone { IsAlone plan.now }
+    requires one_domain { HasOneDomain plan.now }
     requires stream { stream ≤ 10 }
     requires fields { All IsRangedField plan.now.fields }
     requires few { length plan.now.fields ≤ 64 }
@@ -65,7 +69,7 @@ fn file_fault(alloc: Global, plan: &Plan, stream: u32) -> Found
 
 /// The first stream whose files pass the limit of the version. Fields out of their ranges count as want of memory.
 pub(crate) fn files_fault(alloc: Global, plan: &Plan) -> Found
-    requires alone { IsAlone plan.now }
+    requires one_domain { HasOneDomain plan.now }
     requires few { length plan.now.fields ≤ 64 }
     ensures { IfOk result (λ f. f ≡ first_fault (map (file_fault plan.now 1) (range_with_len 0 11))) }
 {

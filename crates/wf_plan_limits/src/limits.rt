@@ -9,7 +9,7 @@ ghost use Rattle.wf_plan_limits.specs.LimitParts.{size_faults, run_faults};
 
 use crate::cells::all_cells;
 use crate::files::files_fault;
-use crate::script::{is_alone, script_items};
+use crate::script::{has_one_domain, script_items};
 use std::alloc::{AllocError, Global};
 use wf_model::{Plan, PlanFault, Which};
 
@@ -96,7 +96,7 @@ fn run_fault(alloc: Global, plan: &Plan) -> Found
     if plan.domains.as_slice().is_empty() {
         return Ok(None);
     }
-    if !is_alone(plan) {
+    if !has_one_domain(plan) {
         return Err(AllocError);
     }
     let fault = limited(Which::Script, MOST_SCRIPT_ITEMS, script_items(plan)?)?;

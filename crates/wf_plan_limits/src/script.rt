@@ -4,7 +4,7 @@ ghost use Rattle.std.specs.Prelude.{◌≡◌, ◌↔◌, ◌+◌, ◌*◌, ◌�
 ghost use Rattle.std.specs.List.{range_with_len};
 ghost use Rattle.wf_model.specs.Plans.{domain_of};
 ghost use Rattle.wf_model.specs.Counts.{due_steps, more_restarts, script_items};
-ghost use Rattle.wf_plan_limits.specs.ScriptCount.{IsAlone, stream_frames};
+ghost use Rattle.wf_plan_limits.specs.ScriptCount.{HasOneDomain, stream_frames};
 
 use crate::cells::plus;
 use std::alloc::AllocError;
@@ -23,8 +23,8 @@ pub(crate) fn first_domain(plan: &Plan) -> &Domain
 }
 
 /// Whether the plan has one domain, which begins at the run's start, with steps of a second at least.
-pub(crate) fn is_alone(plan: &Plan) -> bool
-    ensures { IsTrue result ↔ IsAlone plan.now }
+pub(crate) fn has_one_domain(plan: &Plan) -> bool
+    ensures { IsTrue result ↔ HasOneDomain plan.now }
 {
     if plan.domains.as_slice().len() != 1 {
         return false;
@@ -44,7 +44,12 @@ pub(crate) fn due_steps(interval: u64, steps: u64) -> u64
 pub(crate) fn interval(domain: &Domain, stream: usize) -> u64
     ensures { result ≡ slice_index domain.now.intervals stream }
 {
-    domain.intervals.as_slice().get(stream).copied().unwrap_or(0)
+    domain
+        .intervals
+        .as_slice()
+        .get(stream)
+        .copied()
+        .unwrap_or(0)
 }
 
 /// The frames of a stream: one at the start where it is used, and one after each step that is due.
@@ -69,7 +74,7 @@ fn frame_count(domain: &Domain, steps: u64) -> u128
 
 /// One more restart file where a restart writes restart files.
 fn more_restarts(plan: &Plan) -> u128
-    requires { IsAlone plan.now }
+    requires { HasOneDomain plan.now }
     ensures value { result ≡ more_restarts plan.now }
     ensures few { result ≤ 1 }
 {
@@ -78,7 +83,7 @@ fn more_restarts(plan: &Plan) -> u128
 
 /// The number of the script's items, and what a restart adds.
 pub(crate) fn script_items(plan: &Plan) -> Result<u128, AllocError>
-    requires { IsAlone plan.now }
+    requires { HasOneDomain plan.now }
     ensures { IfOk result (λ n. n ≡ script_items plan.now) }
 {
     let items = plan.items.as_slice().len() as u128;
@@ -86,5 +91,8 @@ pub(crate) fn script_items(plan: &Plan) -> Result<u128, AllocError>
         return Err(AllocError);
     };
     let restarts = u128::from(due_steps(plan.restart_steps, plan.steps)) + more_restarts(plan);
-    plus(table, frame_count(first_domain(plan), plan.steps) + restarts)
+    plus(
+        table,
+        frame_count(first_domain(plan), plan.steps) + restarts,
+    )
 }

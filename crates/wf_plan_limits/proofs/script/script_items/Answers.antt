@@ -1,7 +1,7 @@
 use Rattle.std.proofs.Common.{rules, ◌≡◌, ◌+◌, ◌*◌, ◌∙◌, length}
 use Rattle.wf_model.specs.Counts.{due_steps, script_items}
 use Rattle.wf_plan_limits.specs.ScriptCount.{frame_count}
-use Rattle.wf_plan_limits.proofs.ScriptLength.{script_items-alone}
+use Rattle.wf_plan_limits.proofs.ScriptLength.{script_items-parts}
 use Rattle.wf_plan_limits.proofs.Stages.{if_ok-along}
 use Rattle.wf_plan_limits.proofs.script.script_items.Goals as goal
 
@@ -12,5 +12,5 @@ returns c =
     let due : c.from-2.result ≡ due_steps c.args.plan.now.restart_steps c.args.plan.now.steps = search rules in
     if_ok-along c.plus.result _ _
     (λ n is. let sum : n ≡ c.in-Some.table + (c.frame_count.result + (c.from-2.result + c.more_restarts.result)) = is in
-    sum ∙ script_items-alone c.args.plan.now c.requires c.in-Some.table c.frame_count.result c.from-2.result c.more_restarts.result table frames due c.more_restarts.ensures.value)
+    sum ∙ script_items-parts c.args.plan.now c.requires c.in-Some.table c.frame_count.result c.from-2.result c.more_restarts.result table frames due c.more_restarts.ensures.value)
     c.plus.ensures
