@@ -12,8 +12,8 @@ struct Case {
     fields: u32,
     levels: u32,
     stream: u16,
-    /// The points in x, and as many in y.
-    points: u32,
+    /// One more than the points in x, and as many in y.
+    extent: u32,
     /// Steps, and a frame of streams 0 and 3 after each, with so many frames a file.
     steps: u64,
     frames: u32,
@@ -27,7 +27,7 @@ const BASE: Case = Case {
     fields: 2,
     levels: 1,
     stream: 0,
-    points: 3,
+    extent: 4,
     steps: 1,
     frames: 10,
     restart_steps: 0,
@@ -79,8 +79,8 @@ fn domain(rt: &HostRuntime, case: Case) -> Result<Domain, AllocError> {
         j_start: 1,
         ratio: 1,
         time_ratio: 1,
-        ide: case.points + 1,
-        jde: case.points + 1,
+        ide: case.extent,
+        jde: case.extent,
         kde: 2,
         seconds: 60,
         begins: 0,
@@ -163,17 +163,17 @@ fn extents_are_1_to_128(rt: HostRuntime) -> Result<(), Fail> {
 /// 2,000 by 2,000 by 13 is 52,000,000, and 5,000 by 5,000 by 2 is 50,000,000.
 #[test]
 fn cells_are_50_million_at_most(rt: HostRuntime) -> Result<(), Fail> {
-    for (points, levels, wanted) in [
-        (2000, 13, Some((Which::Cells, 52_000_000))),
-        (5000, 2, None),
+    for (extent, levels, wanted) in [
+        (2001, 13, Some((Which::Cells, 52_000_000))),
+        (5001, 2, None),
     ] {
         let case = Case {
             fields: 1,
-            points,
+            extent,
             levels,
             ..BASE
         };
-        assert_eq!(rt; limit(&rt, case, &[1])?, wanted, "{points} points");
+        assert_eq!(rt; limit(&rt, case, &[1])?, wanted, "{extent}");
     }
     Ok(())
 }
@@ -216,7 +216,7 @@ fn files_of_version_1_have_two_gigabytes_at_most(rt: HostRuntime) -> Result<(), 
     ] {
         let case = Case {
             fields: 1,
-            points: 1000,
+            extent: 1001,
             stream,
             steps,
             frames,
@@ -241,7 +241,7 @@ fn files_of_version_2_have_a_terabyte_at_most(rt: HostRuntime) -> Result<(), Fai
     ] {
         let case = Case {
             fields: 1,
-            points: 2000,
+            extent: 2001,
             steps,
             frames: 100_000,
             version: 2,
