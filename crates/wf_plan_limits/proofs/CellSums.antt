@@ -1,11 +1,10 @@
 -- The cells of all domains, by their data in order.
-use Rattle.std.proofs.Common.{◌≡◌, ℕ, zero, suc, ◌+◌, ◌-◌, ◌*◌, ◌<◌, List, [], ◌∷◌, length, get_or, refl, sym, ap, ◌∙◌, arith}
+use Rattle.std.proofs.Common.{◌≡◌, ℕ, suc, ◌+◌, ◌<◌, List, [], ◌∷◌, length, get_or, refl, ap, ◌∙◌, arith}
 use Rattle.std.proofs.lemmas.List.Sums.{sum_by-cons}
 use Rattle.std.specs.Prelude.{sum_by}
 use Rattle.std.specs.List.{range_with_len}
 use Rattle.wf_model.specs.declared.plan.Plan.{Plan}
-use Rattle.wf_model.specs.declared.plan.Domain.{Domain}
-use Rattle.wf_model.specs.Plans.{domain_of, field_of, no_domain, no_field, domains_of, levels_of}
+use Rattle.wf_model.specs.Plans.{domain_of, field_of, no_domain, no_field, levels_of}
 use Rattle.wf_model.specs.Counts.{own_cells, all_cells}
 use Rattle.wf_plan_limits.specs.CellCount.{level_cells, domain_cells}
 

@@ -1,11 +1,10 @@
 -- The sizes of files against their limit.
-use Rattle.std.proofs.Common.{◌≡◌, ℕ, ◌+◌, ◌-◌, ◌*◌, ◌/◌, ◌^◌, ◌<◌, ◌≤◌, Bool, true, false, Option, Some, None, refl, sym, ap, ◌∙◌, arith}
+use Rattle.std.proofs.Common.{◌≡◌, ℕ, ◌+◌, ◌-◌, ◌*◌, ◌/◌, ◌^◌, ◌<◌, ◌≤◌, true, false, Some, None, sym, ap, ◌∙◌, arith}
 use Rattle.std.proofs.Math.Nat.{mul-div_cancel}
 use Rattle.std.proofs.lemmas.Bool.Decides.{nat_tests}
 use Rattle.std.specs.Prelude.{nat_lt, min, pos, ◌==◌, slice_index, if◌then◌else◌}
 use Rattle.wf_model.specs.declared.plan.Plan.{Plan}
 use Rattle.wf_model.specs.declared.header.Header.{Header}
-use Rattle.wf_model.specs.declared.plan_fault.PlanFault.{PlanFault}
 use Rattle.wf_model.specs.declared.plan_fault.PlanFault.TheVariants.{Limit}
 use Rattle.wf_model.specs.declared.plan_fault.Which.TheVariants as which
 use Rattle.wf_model.specs.Plans.{domain_of}

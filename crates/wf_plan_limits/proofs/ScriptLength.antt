@@ -1,20 +1,19 @@
 -- The length of the script of one domain.
-use Rattle.std.proofs.Common.{◌≡◌, ℕ, zero, suc, ◌+◌, ◌-◌, ◌*◌, ◌/◌, ◌<◌, ◌≤◌, Bool, true, false, List, [], ◌∷◌, ◌++◌, map, length, length-append, refl, sym, ap, ◌∙◌, arith}
+use Rattle.std.proofs.Common.{◌≡◌, ℕ, suc, ◌+◌, ◌-◌, ◌*◌, ◌/◌, ◌<◌, Bool, true, false, List, [], ◌∷◌, ◌++◌, map, length, length-append, refl, ap, ◌∙◌, arith}
 use Rattle.std.proofs.Math.Nat.{mul-div_cancel}
 use Rattle.std.proofs.lemmas.List.{length-map, append-nil}
 use Rattle.std.proofs.lemmas.Bool.Decides.{nat_tests}
 use Rattle.std.proofs.lemmas.List.FromFn.{length-range_with_len}
 use Rattle.std.proofs.lemmas.List.Concat.{length-flat_map}
-use Rattle.std.specs.Prelude.{pos, flat_map, filter, sum_by, slice_index, slice_index_or, ◌==◌, ◌||◌, ◌&&◌, if◌then◌else◌, nat_lt}
+use Rattle.std.specs.Prelude.{flat_map, filter, sum_by, slice_index, slice_index_or, ◌==◌, ◌||◌, ◌&&◌, if◌then◌else◌, nat_lt}
 use Rattle.std.specs.List.{range_with_len}
 use Rattle.wf_model.specs.declared.plan.Plan.{Plan}
-use Rattle.wf_model.specs.declared.initial.Begin.{Begin}
 use Rattle.wf_model.specs.declared.script.Act.TheVariants.{Emit, Table}
 use Rattle.wf_model.specs.declared.script.Entry.{Entry}
 use Rattle.wf_model.specs.Plans.{domain_of, begin_of, children, domains_of, up_to, no_begin, no_domain}
-use Rattle.wf_model.specs.Script.{entry, step_of, script_of, steps_by, begin_time, start_frames, due_frames, restart_frames, restart_stream, table, interval, is_due, not_before}
+use Rattle.wf_model.specs.Script.{entry, step_of, script_of, steps_by, begin_time, start_frames, due_frames, restart_frames, restart_stream, table, is_due, not_before}
 use Rattle.wf_model.specs.Streams.{one_if}
-use Rattle.wf_model.specs.Counts.{fresh_begin, fresh_begins, fresh_script, due_steps, more_restarts, own_steps, script_items}
+use Rattle.wf_model.specs.Counts.{fresh_begin, fresh_begins, fresh_script, due_steps, more_restarts, script_items}
 use Rattle.wf_plan_limits.specs.ScriptCount.{HasOneDomain, stream_frames, frame_count, script_count}
 use Rattle.wf_plan_limits.proofs.Sums.{sum_by-both, sum_by-same, sum_by-zeros, length-filter_sum, sum_by-range}
 use Rattle.wf_plan_limits.proofs.Due.{due_steps-more, due_steps-zero}

@@ -11,8 +11,8 @@ use Rattle.wf_model.specs.declared.plan_fault.PlanFault.TheVariants.{Limit}
 use Rattle.wf_model.specs.declared.plan_fault.Which.TheVariants as which
 use Rattle.wf_model.specs.Plans.{up_to}
 use Rattle.wf_model.specs.Reading.{fault_if, first_fault}
-use Rattle.wf_model.specs.PlanTests.{Faults, extent_fault, file_fault, limit_faults}
-use Rattle.wf_model.specs.Counts.{all_cells, script_items}
+use Rattle.wf_model.specs.PlanTests.{extent_fault, limit_faults}
+use Rattle.wf_model.specs.Counts.{script_items}
 use Rattle.wf_model.proofs.ReadingLemmas.{first_fault-append}
 use Rattle.wf_plan_limits.specs.LimitParts.{levels_limit, cells_limit, script_limit, files_of, size_faults, run_faults}
 use Rattle.wf_plan_limits.proofs.ScriptLength.{no-script}

@@ -1,5 +1,5 @@
 use Rattle.std.proofs.Common.{rules, ◌≡◌, ◌+◌, ◌*◌, ◌∙◌, length}
-use Rattle.wf_model.specs.Counts.{due_steps, script_items}
+use Rattle.wf_model.specs.Counts.{due_steps}
 use Rattle.wf_plan_limits.specs.ScriptCount.{frame_count}
 use Rattle.wf_plan_limits.proofs.ScriptLength.{script_items-parts}
 use Rattle.wf_plan_limits.proofs.Stages.{if_ok-along}
