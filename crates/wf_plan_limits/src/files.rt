@@ -1,15 +1,15 @@
 //! The sizes of the files of a plan of one domain.
 
 ghost use Rattle.std.specs.Prelude.{◌≡◌, ◌≤◌, All, IfOk, length, map, slice_index};
-ghost use Rattle.wf_model.specs.Plans.{domain_of};
 ghost use Rattle.std.specs.List.{range_with_len};
+ghost use Rattle.wf_model.specs.Plans.{domain_of};
 ghost use Rattle.wf_model.specs.Counts.{file_records};
 ghost use Rattle.wf_model.specs.Ranges.{IsRangedField};
 ghost use Rattle.wf_model.specs.Reading.{first_fault};
 ghost use Rattle.wf_model.specs.PlanTests.{file_fault};
 ghost use Rattle.wf_plan_limits.specs.ScriptCount.{HasOneDomain};
 
-use crate::limits::{Found, as_limit};
+use crate::found::{Found, as_limit};
 use crate::ranged::are_ranged;
 use crate::script::{due_steps, first_domain, interval};
 use std::alloc::{AllocError, Global};

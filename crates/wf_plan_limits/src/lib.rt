@@ -3,6 +3,7 @@
 
 mod cells;
 mod files;
+mod found;
 mod limits;
 mod ranged;
 mod script;

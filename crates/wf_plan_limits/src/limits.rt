@@ -1,20 +1,16 @@
 //! The first limit that a plan passes.
 
-ghost use Rattle.std.specs.Prelude.{◌≡◌, ◌≤◌, ◌<◌, ◌^◌, IfOk, OnOk, Some, length, map, nat_lt, pos};
-ghost use Rattle.wf_model.specs.Counts.{all_cells, script_items};
+ghost use Rattle.std.specs.Prelude.{◌≡◌, ◌≤◌, IfOk, length, map};
 ghost use Rattle.wf_model.specs.PlanTests.{extent_fault, limit_faults};
-ghost use Rattle.wf_model.specs.Reading.{fault_if, first_fault};
-ghost use Rattle.wf_model.specs.declared.plan_fault.PlanFault.TheVariants.{Limit};
+ghost use Rattle.wf_model.specs.Reading.{first_fault};
 ghost use Rattle.wf_plan_limits.specs.LimitParts.{size_faults, run_faults};
 
 use crate::cells::all_cells;
 use crate::files::files_fault;
+use crate::found::{Found, limited};
 use crate::script::{has_one_domain, script_items};
 use std::alloc::{AllocError, Global};
 use wf_model::{Plan, PlanFault, Which};
-
-/// A fault, or none; or want of memory.
-pub(crate) type Found = Result<Option<PlanFault>, AllocError>;
 
 const MOST_LEVELS: u128 = 64;
 
@@ -23,28 +19,6 @@ const MOST_EXTENT: i64 = 128;
 const MOST_CELLS: u128 = 50_000_000;
 
 const MOST_SCRIPT_ITEMS: u128 = 1_000_000;
-
-/// A number past its limit, as a fault; one that the fault can't hold counts as want of memory.
-pub(crate) fn as_limit(which: Which, value: u128) -> Found
-    ensures limit { IfOk result (λ f. f ≡ Some (Limit which (pos value))) }
-    ensures fits { OnOk result (value < 2 ^ 127) }
-{
-    match i128::try_from(value) {
-        Ok(value) => Ok(Some(PlanFault::Limit { which, value })),
-        Err(_) => Err(AllocError),
-    }
-}
-
-/// A number, as a fault where it passes its limit.
-fn limited(which: Which, most: u128, value: u128) -> Found
-    ensures { IfOk result (λ f. f ≡ fault_if (nat_lt most value) (Limit which (pos value))) }
-{
-    if value <= most {
-        Ok(None)
-    } else {
-        as_limit(which, value)
-    }
-}
 
 /// Whether an extent in z is 1 to 128.
 fn extent_fault(extent: i64) -> Option<PlanFault>
@@ -108,16 +82,23 @@ fn run_fault(alloc: Global, plan: &Plan) -> Found
 
 /// The first limit that a plan of one domain passes, if any.
 ///
-/// In this order: more than 64 field levels; an extent in z that isn't 1 to 128, in the order of `extents`; more than
-/// 50,000,000 cells of all levels and domains; more than 1,000,000 items of the script; and files of the streams 0 to 9
-/// and of restart files with more than 2,147,483,644 bytes in version 1, or 1,099,511,627,776 in version 2, with as many
-/// records as they take. The fault has the number that passes its limit. The script is counted as if no domain resumed,
-/// with one restart file more where a restart writes restart files. The limits are this project's own, but for that of
-/// files of version 1, whose places have four bytes.
+/// `extents` are the extents in z that are asked for, in the order in which they are judged; they stand beside the plan,
+/// since its type can't hold one below 0. The tests, in this order:
 ///
-/// What can't be counted is answered as want of memory, after the tests before it: for the script a plan of more domains
-/// than one, or whose domain doesn't begin at the run's start or has steps of no second; for files fields out of their
-/// ranges or a header that can't be placed; and numbers past 2 to the 127.
+/// - more than 64 field levels;
+/// - an extent in z that isn't 1 to 128;
+/// - more than 50,000,000 cells of all levels in all domains;
+/// - more than 1,000,000 items of the script, counted as if no domain resumed, and with one restart file more where a
+///   restart writes restart files;
+/// - for streams 0 to 9 and then restart files, a file of more than 2,147,483,644 bytes in version 1, or
+///   1,099,511,627,776 in version 2, with as many records as it takes in this run.
+///
+/// The fault has the number that passes its limit. The limits are this project's own; that of version 1 keeps all places
+/// in a file below 2 to the 31.
+///
+/// What can't be counted is answered as want of memory, after the tests before it: the script of more domains than one,
+/// or of one that doesn't begin at the run's start or whose steps take no second; files of fields out of their ranges,
+/// or with a header that can't be placed; a number from 2 to the 127 on.
 pub fn limit_fault(
     alloc: Global,
     plan: &Plan,

@@ -52,5 +52,5 @@ fn is_ranged(field: &Field) -> bool
 pub(crate) fn are_ranged(fields: &[Field]) -> bool
     ensures { IsTrue result ↔ All IsRangedField fields.now }
 {
-    fields.iter().all(|field| is_ranged(field))
+    fields.iter().all(is_ranged)
 }
