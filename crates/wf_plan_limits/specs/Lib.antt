@@ -1,0 +1,4 @@
+pub mod CellCount
+pub mod FieldRanges
+pub mod LimitParts
+pub mod ScriptCount
