@@ -1,0 +1,4 @@
+pub mod IoReads
+pub mod Functions
+pub mod StreamBits
+pub mod LevelsOf

@@ -1,0 +1,2 @@
+pub mod IoParts
+pub mod LevelFields
