@@ -1,0 +1,10 @@
+//! The plan of a run: what a config and a stencil table say, or why they have no plan.
+#![tactic(auto)]
+
+mod plan;
+
+pub use plan::plan;
+pub use wf_plan_domains::PlanError;
+
+#[cfg(test)]
+mod tests;
