@@ -8,3 +8,6 @@ mod regions;
 mod walk;
 
 pub use faults::read_fault;
+
+#[cfg(test)]
+mod tests;
