@@ -1,0 +1,4 @@
+pub mod Layers
+pub mod Shifted
+pub mod FirstReads
+pub mod FirstFaults
