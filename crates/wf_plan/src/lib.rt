@@ -1,10 +1,8 @@
 //! The plan of a run: what a config and a stencil table say, or why they have no plan.
 #![tactic(auto)]
 
-mod plan;
+mod planning;
 
-pub use plan::plan;
+pub use planning::plan;
 pub use wf_plan_domains::PlanError;
 
-#[cfg(test)]
-mod tests;
