@@ -1,0 +1,11 @@
+pub mod Yields
+pub mod Tokens
+pub mod Finds
+pub mod Layers
+pub mod Walk
+pub mod Keeping
+pub mod Items
+pub mod ItemLines
+pub mod Follows
+pub mod Margins
+pub mod NamesOfConfig
