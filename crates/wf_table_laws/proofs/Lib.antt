@@ -9,3 +9,4 @@ pub mod ItemLines
 pub mod Follows
 pub mod Margins
 pub mod NamesOfConfig
+pub mod BoundNames

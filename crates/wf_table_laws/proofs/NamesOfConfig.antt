@@ -33,7 +33,7 @@ on_front : {Y : Type 0} (P : Y → Type 0) (o : Option Y) (ys : List Y) → IfSo
 on_front P None ys here all = all
 on_front P (Some y) ys here all = All-cons P y ys here all
 
-All-filter_map : {X Y : Type 0} (P : Y → Type 0) (h : X → Option Y) (xs : List X) → All (λ x. IfSome (h x) P) xs → All P (filter_map h xs)
+pub All-filter_map : {X Y : Type 0} (P : Y → Type 0) (h : X → Option Y) (xs : List X) → All (λ x. IfSome (h x) P) xs → All P (filter_map h xs)
 All-filter_map P h [] all = All-nil P
 All-filter_map P h (x ∷ xs) all =
     on_front P (h x) (filter_map h xs) (All-head (λ x. IfSome (h x) P) x xs all) (All-filter_map P h xs (All-tail (λ x. IfSome (h x) P) x xs all))
@@ -180,12 +180,15 @@ names_ranged config hooks halos periods arities =
       hooks = arities;
     }
 
+from_zero : (n : ℕ) → 0 + n ≡ n
+from_zero n = omega arith
+
 pub names_levels : NamesUseLevels
 unfolding names_of
 names_levels config hooks =
     let levels = flat_map levels_in config.fields in
     record {
-      fields = fields_below 0 config.fields;
+      fields = subst (λ n. All (AreBelow n) (fields_from 0 config.fields)) (from_zero (length levels)) (fields_below 0 config.fields);
       halos = All-filter_map (λ (halo : Text × List HaloPart). All (λ (p : HaloPart). p.field < length levels) halo.1) (halo_of levels) config.halos (λ k d lt. halo_known levels _);
       periods = All-filter_map (λ (period : Text × List PeriodPart). All (λ (p : PeriodPart). p.field < length levels) period.1) (period_of levels) config.periods (λ k d lt. period_known levels _);
     }

@@ -41,9 +41,11 @@ abbrev pub ItemsAreFew : Type 0
 ItemsAreFew = ItemsKeep Anything (λ names items. length items ≤ 256)
 
 -- no two phases have one name, and none has a word of the script
+abbrev pub HasNamedPhases : List Item → Type 0
+HasNamedPhases items = AllPairs (λ (a b : Text). a ≡ b → ⊥) (phase_names items) × All (λ (name : Text). IsFalse (is_among name taken_phases)) (phase_names items)
+
 abbrev pub PhaseNamesDiffer : Type 0
-PhaseNamesDiffer = ItemsKeep Anything (λ names items.
-    AllPairs (λ (a b : Text). a ≡ b → ⊥) (phase_names items) × All (λ (name : Text). IsFalse (is_among name taken_phases)) (phase_names items))
+PhaseNamesDiffer = ItemsKeep Anything (λ names items. HasNamedPhases items)
 
 -- items in their ranges ask for at most 12 cells beyond a patch's own
 abbrev pub MarginsAreSmall : Type 0
@@ -79,8 +81,10 @@ CallsAreHooks = ItemsKeep Anything (λ names items. All (CallsHooks names.hooks)
 
 -- no phase calls a stored function
 abbrev pub CallsNothing : Item → Type 0
+CallsNothing (item.Halo parts) = Unit {0}
+CallsNothing (item.Period parts) = Unit {0}
+CallsNothing (item.Swap one two) = Unit {0}
 CallsNothing (item.Phase ph) = (parts_of ph.expr).calls ≡ []
-CallsNothing other = Unit {0}
 
 -- without stored functions there are no calls
 abbrev pub NothingIsCalled : Type 0

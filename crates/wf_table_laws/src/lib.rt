@@ -2,7 +2,7 @@
 #![tactic(auto)]
 
 ghost use Rattle.wf_table_laws.specs.ItemLaws.{ItemsAreRanged, CrossesAreNarrow, ItemsAreFew, PhaseNamesDiffer, MarginsAreSmall, ItemsAreOfNames, ItemsUseLevels, CallsAreHooks, NothingIsCalled};
-ghost use Rattle.wf_table_laws.specs.NamesLaws.{NamesAreRanged, NamesUseLevels};
+ghost use Rattle.wf_table_laws.specs.NamesLaws.{NamesAreRanged, BoundNamesAreRanged, NamesUseLevels, BoundTablesAreSound};
 
 /// The numbers of the items are in their ranges, where those of the names are: radii and widths of 1 to 6, calls of at
 /// most 8 arguments. An expression has at most 1024 nodes and depth 64.
@@ -57,7 +57,17 @@ pub fn names_are_ranged()
     ensures { NamesAreRanged }
 {}
 
+/// So are those of a config that a namelist and a Registry that was read give.
+pub fn bound_names_are_ranged()
+    ensures { BoundNamesAreRanged }
+{}
+
 /// The names of a config use levels that there are.
 pub fn names_use_levels()
     ensures { NamesUseLevels }
+{}
+
+/// All of this of a table that uses the names of a config, which a namelist and a Registry that was read give.
+pub fn bound_tables_are_sound()
+    ensures { BoundTablesAreSound }
 {}
