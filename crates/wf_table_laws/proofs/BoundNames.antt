@@ -1,17 +1,14 @@
 -- The groups of a Registry that was read keep the rules of their heads, and so do those of a config that is bound to it.
-use Rattle.std.proofs.Common.{◌≡◌, ℕ, Bool, true, false, nat_le, List, [], ◌∷◌, ◌++◌, length, map, Option, Some, None, Result, Ok, Err, IfSome, option_map, refl, sym, ap, ◌∙◌, subst, arith, if◌then◌else◌}
-use Rattle.std.specs.Prelude.{All, flat_map, filter, filter_map}
+use Rattle.std.proofs.Common.{◌≡◌, Bool, true, false, nat_le, List, [], ◌∷◌, ◌++◌, length, Option, Some, None, Result, Ok, Err, IfSome, option_map, refl, sym, ◌∙◌, subst, if◌then◌else◌}
+use Rattle.std.specs.Prelude.{All, flat_map}
 use Rattle.std.specs.Option.{option_or, option_to_list}
-use Rattle.std.proofs.lemmas.List.Elements.{All-nil, All-cons, All-append, All-filter}
+use Rattle.std.proofs.lemmas.List.Elements.{All-nil, All-cons, All-filter}
 use Rattle.wf_model.specs.declared.registry.SourceFile.{SourceFile}
 use Rattle.wf_model.specs.declared.registry.Registry.{Registry}
 use Rattle.wf_model.specs.declared.registry.RegistryKind.{RegistryKind}
-use Rattle.wf_model.specs.declared.registry.RegistryFault.{RegistryFault}
 use Rattle.wf_model.specs.declared.registry.Entry.{Entry}
-use Rattle.wf_model.specs.declared.registry.Entry.TheVariants as entry
 use Rattle.wf_model.specs.declared.namelist.Namelist.{Namelist}
 use Rattle.wf_model.specs.declared.config.Config.{Config}
-use Rattle.wf_model.specs.declared.table.HookName.{HookName}
 use Rattle.wf_model.specs.Reading.{first_fault, unless_fault}
 use Rattle.wf_model.specs.Letters.{Text}
 use Rattle.wf_model.specs.KeptLines.{Kept, Defines, columns, registry_lines}
@@ -19,12 +16,10 @@ use Rattle.wf_model.specs.Groups.{groups_of, head_of, group_faults, points_head,
 use Rattle.wf_model.specs.Entries.{Kind, dimspecs, states, rconfigs, packages, halos, periods, left_out, no_kind, kind_of, least_columns, entry_of_kind, entry_of, entries_of, joined_groups}
 use Rattle.wf_model.specs.Judging.{line_fault, column_faults}
 use Rattle.wf_model.specs.Registry.{broken_line, fault_at, refusal, met_of, stop_of, registry_of}
-use Rattle.wf_model.specs.Config.{config_of, config_fault, config_from, is_halo, is_period}
+use Rattle.wf_model.specs.Config.{config_of, is_halo, is_period}
 use Rattle.wf_model.specs.NamesOf.{names_of}
 use Rattle.wf_model.proofs.ReadingLemmas.{ok_is, first_fault-append}
-use Rattle.wf_table_laws.specs.Premises.{HasRangedArity, HasRangedParts}
-use Rattle.wf_table_laws.specs.ItemLaws.{ItemsKeep}
-use Rattle.wf_table_laws.specs.NamesLaws.{HeadsAreGood, HasGoodHeads, BoundNamesAreRanged, BoundTablesAreSound}
+use Rattle.wf_table_laws.specs.NamesLaws.{HasGoodHeads, BoundNamesAreRanged, BoundTablesAreSound}
 use Rattle.wf_table_laws.proofs.Follows.{items_ranged, crosses_narrow, items_few, items_of_names, items_levels, calls_hooks, calls_nothing, names_differ}
 use Rattle.wf_table_laws.proofs.NamesOfConfig.{names_ranged, names_levels, All-filter_map}
 

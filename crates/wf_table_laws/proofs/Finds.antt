@@ -1,9 +1,13 @@
--- What is found in a list.
-use Rattle.std.proofs.Common.{◌≡◌, ℕ, suc, ◌<◌, Bool, true, false, cond, List, [], ◌∷◌, length, get_or, Option, Some, None, refl, sym, ap, subst, ◌∙◌, arith}
-use Rattle.std.specs.Prelude.{find}
+-- What is found in a list, and tests.
+use Rattle.std.proofs.Common.{◌≡◌, ℕ, suc, ◌<◌, Bool, true, false, cond, List, [], ◌∷◌, length, get_or, Option, Some, None, refl, sym, ap, ◌∙◌, arith}
+use Rattle.std.specs.Prelude.{find, ◌==◌}
 
 pub differ : (let b : Bool = true in b) ≡ false → ⊥
 differ e = cc
+
+-- numbers that the test takes for equal
+pub equal_of : (m n : ℕ) → (m == n) ≡ true → m ≡ n
+equal_of m n e = grind arith
 
 none : {X : Type 0} (x : X) → (let o : Option X = None in o) ≡ Some x → ⊥
 none x e = cc

@@ -1,7 +1,7 @@
 -- What follows for each item of a table that was read.
-use Rattle.std.proofs.Common.{◌≡◌, ℕ, ◌+◌, ◌^◌, ◌<◌, ◌≤◌, max, Bool, true, false, List, [], ◌∷◌, length, get_or, map, fold, Result, Ok, refl, sym, ap, ◌∙◌, subst, arith}
-use Rattle.std.specs.Prelude.{All, Any, unsigned_abs}
-use Rattle.std.proofs.lemmas.List.Elements.{All-weaker, All-head, All-tail, All-map}
+use Rattle.std.proofs.Common.{◌≡◌, ℕ, ◌<◌, ◌≤◌, true, List, [], ◌∷◌, length, get_or, refl, subst, arith}
+use Rattle.std.specs.Prelude.{All, Any}
+use Rattle.std.proofs.lemmas.List.Elements.{All-weaker, All-head}
 use Rattle.wf_model.specs.declared.expr.Expr.{Expr}
 use Rattle.wf_model.specs.declared.plan.HaloPart.{HaloPart}
 use Rattle.wf_model.specs.declared.plan.PeriodPart.{PeriodPart}
@@ -13,17 +13,15 @@ use Rattle.wf_model.specs.declared.table.Names.{Names}
 use Rattle.wf_model.specs.declared.table.HookName.{HookName}
 use Rattle.wf_model.specs.declared.table.HookKind.TheVariants.{Call}
 use Rattle.wf_model.specs.Letters.{Text}
-use Rattle.wf_model.specs.Reads.{Read, reads_of, greatest, reach, item_margin, margin_of}
+use Rattle.wf_model.specs.Reads.{Read, reads_of}
 use Rattle.wf_model.specs.ExprFacts.{CallOf, parts_of, IsNearRead, IsRangedExpr}
 use Rattle.wf_model.specs.Ranges.{Within, IsRangedItem, IsRangedPhase}
-use Rattle.wf_model.specs.Sound.{IsHook, CallsHooks}
-use Rattle.wf_model.specs.Table.{table_of}
+use Rattle.wf_model.specs.Sound.{CallsHooks}
 use Rattle.wf_table_laws.specs.Premises.{HasRangedParts, HasKnownLevels, HasRangedArity, IsRangedHaloPart, IsRangedPeriodPart}
-use Rattle.wf_table_laws.specs.ItemLaws.{HasNarrowCrosses, IsOfNames, UsesLevels, CallsNothing, ItemsKeep, Anything, ItemsAreRanged, CrossesAreNarrow, ItemsAreFew, PhaseNamesDiffer, MarginsAreSmall, ItemsAreOfNames, ItemsUseLevels, CallsAreHooks, NothingIsCalled}
-use Rattle.wf_table_laws.proofs.Keeping.{Keeps, Collects, IsCallOf, IsReadOf}
+use Rattle.wf_table_laws.specs.ItemLaws.{IsKnownRead, HasNarrowCrosses, IsOfNames, UsesLevels, CallsNothing, ItemsKeep, Anything, ItemsAreRanged, CrossesAreNarrow, ItemsAreFew, PhaseNamesDiffer, ItemsAreOfNames, ItemsUseLevels, IsSoundExchange, ExchangesAreSound, CallsAreHooks, NothingIsCalled}
+use Rattle.wf_table_laws.proofs.Keeping.{Keeps, IsCallOf, IsReadOf}
 use Rattle.wf_table_laws.proofs.Items.{IsItemOf, IsPhaseOf}
 use Rattle.wf_table_laws.proofs.ItemLines.{Kept, IsItem, table-yields}
-use Rattle.wf_table_laws.proofs.Walk.{IsTree}
 
 -- what holds of one that stands in a list of which it all holds
 any_of : {X : Type 0} (P Q : X → Type 0) (xs : List X) (R : Type 0) → All P xs → Any Q xs → ((x : X) → P x → Q x → R) → R
@@ -85,13 +83,14 @@ narrow_item names before (item.Phase ph) ranged is = tt
 -- ---- names
 
 read_levels : (names : Names) (x : Expr) → Keeps names x → All (λ (r : Read). r.field < length names.levels) (reads_of x)
-read_levels names x keeps = All-weaker (IsReadOf names) (λ (r : Read). r.field < length names.levels) (λ r h. h.1) (reads_of x) keeps.reads
+read_levels names x keeps = All-weaker (IsReadOf names) (λ (r : Read). r.field < length names.levels) (λ r h. h.1.level) (reads_of x) keeps.reads
 
 item_of_names : (names : Names) (before : List Item) (i : Item) → IsItemOf names before i → IsOfNames names i
 item_of_names names before (item.Halo parts) is = is
 item_of_names names before (item.Period parts) is = is
 item_of_names names before (item.Swap one two) is = is
-item_of_names names before (item.Phase ph) is = (is.writes, read_levels names ph.expr (phase_keeps names before ph is))
+item_of_names names before (item.Phase ph) is =
+    (is.writes, All-weaker (IsReadOf names) (IsKnownRead names) (λ r h. h.1) (reads_of ph.expr) (phase_keeps names before ph is).reads)
 
 item_levels : (names : Names) (before : List Item) (i : Item) → HasKnownLevels names → IsItemOf names before i → UsesLevels (length names.levels) i
 item_levels names before (item.Halo parts) known is =
@@ -105,6 +104,19 @@ item_levels names before (item.Swap one two) known is =
     any_of (λ (field : Text × ℕ × ℕ). (field.1 < n) × (field.2 < n)) (λ (field : Text × ℕ × ℕ). (field.1 ≡ one) × (field.2 ≡ two)) names.fields ((one < n) × (two < n)) known.fields is.0
     (λ field small same. (subst (λ f. f < n) same.0 small.0, subst (λ f. f < n) same.1 small.1))
 item_levels names before (item.Phase ph) known is = (is.writes, read_levels names ph.expr (phase_keeps names before ph is))
+
+-- ---- halos and periods of a plan
+
+sound_exchange : (plan : Plan) (i : Item) → UsesLevels (length plan.fields) i → IsRangedItem i → HasNarrowCrosses i → IsSoundExchange plan i
+sound_exchange plan (item.Halo parts) levels ranged narrow = λ k d lt.
+    let radius = ranged k d lt in
+    record { level = levels k d lt; some = radius.0; cross = λ is. radius.0; one = narrow k d lt }
+sound_exchange plan (item.Period parts) levels ranged narrow = levels
+sound_exchange plan (item.Swap one two) levels ranged narrow = tt
+sound_exchange plan (item.Phase ph) levels ranged narrow = tt
+
+pub exchanges_sound : ExchangesAreSound
+exchanges_sound plan items levels ranged narrow k d lt = sound_exchange plan (get_or items k d) (levels k d lt) (ranged k d lt) (narrow k d lt)
 
 -- ---- calls
 

@@ -1,25 +1,22 @@
 -- What holds of the items of lines, one after the other.
-use Rattle.std.proofs.Common.{◌≡◌, ℕ, suc, ◌+◌, ◌<◌, ◌≤◌, Bool, true, false, IsFalse, nat_le, List, [], ◌∷◌, ◌++◌, length, length-append, Option, Some, None, Result, Ok, Err, refl, sym, ap, ◌∙◌, subst, append-nil, arith}
+use Rattle.std.proofs.Common.{◌≡◌, ℕ, ◌<◌, ◌≤◌, Bool, true, false, IsFalse, nat_le, List, [], ◌∷◌, ◌++◌, length, length-append, Option, Some, None, refl, sym, ap, ◌∙◌, subst, append-nil, arith}
 use Rattle.std.specs.Prelude.{All, AllPairs, ◌||◌}
-use Rattle.std.specs.List.{list_any}
 use Rattle.std.specs.Str.{bytes_eq, is_utf8}
-use Rattle.std.proofs.lemmas.List.Elements.{All-nil, All-cons, All-append, All-push, All-head, All-tail}
+use Rattle.std.proofs.lemmas.List.Elements.{All-nil, All-cons, All-push}
 use Rattle.std.proofs.lemmas.List.Quantifiers.{all_pairs_push}
 use Rattle.std.proofs.lemmas.Slice.Eq.{bytes_eq-Decides}
 use Rattle.wf_model.specs.declared.text.Line.{Line}
 use Rattle.wf_model.specs.declared.plan.Item.{Item}
 use Rattle.wf_model.specs.declared.plan.Item.TheVariants as item
 use Rattle.wf_model.specs.declared.table.Names.{Names}
-use Rattle.wf_model.specs.declared.table.TableKind.TheVariants.{TooLong, NotText}
 use Rattle.wf_model.specs.declared.text.TextFault.{TextFault}
-use Rattle.wf_model.specs.Reading.{◌>>=◌, told_as}
 use Rattle.wf_model.specs.Letters.{Text, is_among}
 use Rattle.wf_model.specs.Lines.{lines_read}
 use Rattle.wf_model.specs.Tokens.{joined_text}
-use Rattle.wf_model.specs.Table.{fault_in, item_of_text, items_from, most_items, phase_names, taken_phases, unless_bad, table_of}
+use Rattle.wf_model.specs.Table.{fault_in, items_from, most_items, phase_names, taken_phases, unless_bad, table_of}
 use Rattle.wf_table_laws.proofs.Finds.{differ}
-use Rattle.wf_table_laws.proofs.Items.{IsItemOf, IsPhaseOf, IsNewName, item-yields}
-use Rattle.wf_table_laws.proofs.Yields.{Yields, yields-ok, yields-err, yields-told, chain, choose, weaker}
+use Rattle.wf_table_laws.proofs.Items.{IsItemOf, item-yields}
+use Rattle.wf_table_laws.proofs.Yields.{Yields, yields-ok, yields-err, yields-told, chain, choose}
 
 -- an item of these names, behind some items
 abbrev pub IsItem : Names → Item → Type 0

@@ -1,26 +1,24 @@
 -- What holds of an item that is read.
-use Rattle.std.proofs.Common.{◌≡◌, ℕ, ◌<◌, ◌≤◌, ◌==◌, Bool, true, false, IsTrue, IsFalse, List, length, get_or, Option, Some, None, Result, Ok, Err, refl, sym, ap, ◌∙◌, subst, codes, arith, if◌then◌else◌}
-use Rattle.std.specs.Prelude.{find, Any, All}
+use Rattle.std.proofs.Common.{◌≡◌, ℕ, ◌<◌, ◌≤◌, ◌==◌, Bool, false, IsTrue, IsFalse, List, length, Some, Result, refl, codes, arith}
+use Rattle.std.specs.Prelude.{find, Any}
 use Rattle.std.specs.Str.{bytes_eq}
-use Rattle.std.proofs.lemmas.List.Elements.{All-weaker}
-use Rattle.wf_model.specs.declared.expr.Expr.{Expr}
 use Rattle.wf_model.specs.declared.plan.HaloPart.{HaloPart}
 use Rattle.wf_model.specs.declared.plan.PeriodPart.{PeriodPart}
 use Rattle.wf_model.specs.declared.plan.Phase.{Phase}
 use Rattle.wf_model.specs.declared.plan.Item.{Item}
 use Rattle.wf_model.specs.declared.plan.Item.TheVariants as item
 use Rattle.wf_model.specs.declared.table.Names.{Names}
-use Rattle.wf_model.specs.declared.table.TableKind.TheVariants.{UnknownName, UnknownField, NotTwoLevels, RepeatedPhase}
-use Rattle.wf_model.specs.Reading.{◌>>=◌}
+use Rattle.wf_model.specs.declared.table.TableKind.TheVariants.{UnknownName, UnknownField, NotTwoLevels}
 use Rattle.wf_model.specs.Letters.{Text, is_name, is_among}
-use Rattle.wf_model.specs.Tokens.{At, Reader, is_next, past, syntax, expect, name_next, number, tokens_of}
+use Rattle.wf_model.specs.Tokens.{At, Reader, is_next, past, expect, number, tokens_of}
 use Rattle.wf_model.specs.TableNames.{level, field_name}
-use Rattle.wf_model.specs.ExprText.{Tree, whole_expr}
+use Rattle.wf_model.specs.ExprText.{Tree}
 use Rattle.wf_model.specs.Table.{entry_named, exchange, field_named, swap, phase_names, taken_phases, phase_name, perhaps, two_numbers, margins, levels, extend, phase, item_reader, is_end, item_of_text}
 use Rattle.wf_table_laws.proofs.Finds.{find-Some}
 use Rattle.wf_table_laws.proofs.Keeping.{Keeps, rules}
-use Rattle.wf_table_laws.proofs.Tokens.{Same, Counts, IsLevelAt, expect-yields, name-yields, number-yields, level-yields}
-use Rattle.wf_table_laws.proofs.Walk.{IsTree, TreeFrom, whole-reads}
+use Rattle.wf_table_laws.proofs.Tokens.{name-yields, number-yields, level-yields}
+use Rattle.wf_table_laws.proofs.Rules.{IsTree, TreeFrom}
+use Rattle.wf_table_laws.proofs.Walk.{whole-reads}
 use Rattle.wf_table_laws.proofs.Yields.{Yields, yields-ok, yields-err, yields-or, chain, choose, weaker}
 
 -- ---- names

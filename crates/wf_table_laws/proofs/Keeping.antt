@@ -1,9 +1,7 @@
 -- Each expression that is read keeps its ranges, its levels and its calls.
-use Rattle.std.proofs.Common.{◌≡◌, ℕ, ◌+◌, ◌^◌, ◌<◌, ◌≤◌, List, [], ◌∷◌, ◌++◌, length, append_assoc, ℤ, refl, sym, ap, ◌∙◌, subst, subst₂, arith}
-use Rattle.std.specs.Prelude.{unsigned_abs}
+use Rattle.std.proofs.Common.{◌≡◌, ℕ, ◌^◌, ◌<◌, ◌≤◌, List, [], ◌∷◌, ◌++◌, length, append_assoc, sym, ap, ◌∙◌, subst, subst₂, arith}
 use Rattle.std.specs.List.{All, AllByRecursion}
 use Rattle.std.proofs.lemmas.List.Elements.{All-nil, All-cons, All-append}
-use Rattle.wf_model.specs.declared.expr.Test.{Test}
 use Rattle.wf_model.specs.declared.expr.Expr.{Expr, Expr-F, roll-Expr, map-Expr}
 use Rattle.wf_model.specs.declared.expr.Args.{Args}
 use Rattle.wf_model.specs.declared.expr.Args.TheOpen as e
@@ -14,7 +12,9 @@ use Rattle.wf_model.specs.ExprFacts.{CallOf, Parts, ArgumentParts, no_parts, par
 use Rattle.wf_model.specs.ExprText.{Tree, arguments_tree}
 use Rattle.wf_model.specs.Sound.{IsHook}
 use Rattle.wf_table_laws.proofs.Layers.{parts_in, reads_in, parts_roll, reads_roll, parts_more, reads_more}
-use Rattle.wf_table_laws.proofs.Walk.{Rules}
+use Rattle.wf_table_laws.proofs.Rules.{Rules}
+use Rattle.wf_table_laws.proofs.Tokens.{most_dk-within}
+use Rattle.wf_table_laws.specs.ItemLaws.{IsKnownRead}
 
 abbrev pub IsDivisor : ℕ → Type 0
 IsDivisor n = (1 ≤ n) × (n < 2 ^ 63)
@@ -28,7 +28,7 @@ IsCallOf names c = IsHook names.hooks c.id Call c.arguments
 
 -- a near read of a level that is there
 abbrev pub IsReadOf : Names → Read → Type 0
-IsReadOf names r = IsNearRead r × (r.field < length names.levels)
+IsReadOf names r = IsNearRead r × IsKnownRead names r
 
 -- what is collected of an expression keeps this
 pub record Collects (names : Names) (p : Parts) (rs : List Read) : Type 0 where
@@ -72,10 +72,11 @@ module _ (names : Names) where
   listed [] all =
       (subst₂ (λ (p : ArgumentParts) rs. Collects names p.parts rs) (sym (parts_more e.End)) (sym (reads_more e.End)) nothing, ap (λ (p : ArgumentParts). p.count) (parts_more e.End))
   listed (t ∷ ts) all =
-      let rest = listed ts all.1 in
-      (subst₂ (λ (p : ArgumentParts) rs. Collects names p.parts rs) (sym (parts_more (e.More t.expr (arguments_tree ts)))) (sym (reads_more (e.More t.expr (arguments_tree ts))))
-      (both (parts_of t.expr) (parts_in (arguments_tree ts)).parts (reads_of t.expr) (reads_in (arguments_tree ts)) all.0 rest.0),
-      ap (λ (p : ArgumentParts). p.count) (parts_more (e.More t.expr (arguments_tree ts))) ∙ omega (arith, rest.1))
+      let rest = listed ts all.1 in (
+        subst₂ (λ (p : ArgumentParts) rs. Collects names p.parts rs) (sym (parts_more (e.More t.expr (arguments_tree ts)))) (sym (reads_more (e.More t.expr (arguments_tree ts))))
+            (both (parts_of t.expr) (parts_in (arguments_tree ts)).parts (reads_of t.expr) (reads_in (arguments_tree ts)) all.0 rest.0),
+        ap (λ (p : ArgumentParts). p.count) (parts_more (e.More t.expr (arguments_tree ts))) ∙ omega (arith, rest.1),
+      )
 
   -- a call behind the calls of its arguments
   called : (id : ℕ) (list : ArgumentParts) (rs : List Read) → IsHook names.hooks id Call list.count → Collects names list.parts rs → Collects names (call_parts id list) rs
@@ -107,7 +108,7 @@ module _ (names : Names) where
       divisors = All-nil IsDivisor;
       numbers = All-nil IsNumber;
       calls = All-nil (IsCallOf names);
-      reads = All-cons (IsReadOf names) (record { field = f; di = di; dk = dk; dj = dj }) [] ((hi, hk, hj), level) (All-nil (IsReadOf names));
+      reads = All-cons (IsReadOf names) (record { field = f; di = di; dk = dk; dj = dj }) [] ((hi, omega (arith, hk, most_dk-within names f), hj), record { level = level; near = hk }) (All-nil (IsReadOf names));
     });
     neg = λ a h. rolled (e.Neg a) h;
     add = λ a b p q. rolled (e.Add a b) (two a b p q);

@@ -2,6 +2,8 @@ pub mod Yields
 pub mod Tokens
 pub mod Finds
 pub mod Layers
+pub mod Rules
+pub mod Operators
 pub mod Walk
 pub mod Keeping
 pub mod Items

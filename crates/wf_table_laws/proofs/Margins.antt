@@ -1,10 +1,9 @@
 -- Items in their ranges ask for at most 12 cells beyond a patch's own.
-use Rattle.std.proofs.Common.{ℕ, ◌+◌, ◌≤◌, max, List, [], ◌∷◌, map, fold, arith}
-use Rattle.std.specs.Prelude.{All, unsigned_abs}
+use Rattle.std.proofs.Common.{ℕ, ◌≤◌, max, List, [], ◌∷◌, map, fold, arith}
+use Rattle.std.specs.Prelude.{All}
 use Rattle.std.proofs.lemmas.List.Elements.{All-weaker, All-head, All-tail, All-map}
 use Rattle.wf_model.specs.declared.plan.HaloPart.{HaloPart}
 use Rattle.wf_model.specs.declared.plan.PeriodPart.{PeriodPart}
-use Rattle.wf_model.specs.declared.plan.Plan.{Plan}
 use Rattle.wf_model.specs.declared.plan.Item.{Item}
 use Rattle.wf_model.specs.declared.plan.Item.TheVariants as item
 use Rattle.wf_model.specs.Reads.{Read, reads_of, greatest, reach, item_margin, margin_of}

@@ -1,25 +1,22 @@
 -- What holds of the names that a config gives.
-use Rattle.std.proofs.Common.{◌≡◌, ℕ, zero, suc, ◌+◌, ◌-◌, ◌<◌, ◌≤◌, ◌==◌, Bool, true, false, nat_lt, List, [], ◌∷◌, ◌++◌, length, length-append, map, Option, Some, None, IfSome, option_map, position, refl, sym, ap, ◌∙◌, subst, arith, if◌then◌else◌}
+use Rattle.std.proofs.Common.{◌≡◌, ℕ, suc, ◌+◌, ◌-◌, ◌<◌, ◌≤◌, ◌==◌, Bool, true, false, nat_lt, List, [], ◌∷◌, length, length-append, map, Option, Some, None, IfSome, option_map, refl, ap, ◌∙◌, subst, arith, if◌then◌else◌}
 use Rattle.std.specs.Prelude.{All, flat_map, filter_map, ◌&&◌, ◌||◌}
 use Rattle.std.specs.List.{cons_option}
 use Rattle.std.specs.Str.{bytes_eq}
 use Rattle.std.proofs.lemmas.List.Elements.{All-nil, All-cons, All-append, All-head, All-tail, All-weaker}
 use Rattle.wf_model.specs.declared.registry.Entry.{Entry}
 use Rattle.wf_model.specs.declared.registry.Entry.TheVariants as entry
-use Rattle.wf_model.specs.declared.registry.RegistryKind.{RegistryKind}
-use Rattle.wf_model.specs.declared.config.Config.{Config}
 use Rattle.wf_model.specs.declared.plan.HaloPart.{HaloPart}
 use Rattle.wf_model.specs.declared.plan.PeriodPart.{PeriodPart}
-use Rattle.wf_model.specs.declared.table.HookName.{HookName}
 use Rattle.wf_model.specs.Reading.{fault_unless}
 use Rattle.wf_model.specs.Letters.{Text, lower, is_digits, digits_value, is_number_within}
-use Rattle.wf_model.specs.Ranges.{Within}
 use Rattle.wf_model.specs.Entries.{entry_levels, entry_symbol, level_names, is_two}
 use Rattle.wf_model.specs.Groups.{groups_of, head_of, names_in, radius_of, points_head, width_head}
 use Rattle.wf_model.specs.NamesOf.{levels_in, level_number, fields_from, group_parts, parts_in, halo_part, period_part, halo_of, period_of, names_of}
 use Rattle.wf_model.proofs.FirstPlaces.{found}
 use Rattle.wf_table_laws.specs.Premises.{IsRangedHaloPart, IsRangedPeriodPart}
-use Rattle.wf_table_laws.specs.NamesLaws.{HeadsAreGood, HasGoodHeads, NamesAreRanged, NamesUseLevels}
+use Rattle.wf_table_laws.specs.NamesLaws.{HasGoodHeads, NamesAreRanged, NamesUseLevels}
+use Rattle.wf_table_laws.proofs.Finds.{equal_of}
 use Rattle.wf_table_laws.proofs.Tokens.{within}
 
 -- ---- lists of lists, and of what is there
@@ -112,13 +109,9 @@ radius_within n =
     (choice_within 6 (n == 80) 4 _ (omega arith)
     (choice_within 6 (n == 120) 5 _ (omega arith) (choice_within 6 (n == 168) 6 0 (omega arith) (omega arith))))))
 
-equal_of : (m n : ℕ) → (m == n) ≡ true → m ≡ n
-equal_of m n e = grind arith
-
 some_radius : (digits : Bool) (radius : ℕ) → (digits && nat_lt 0 radius) ≡ true → 1 ≤ radius
 some_radius true radius e = grind arith
 some_radius false radius e = grind arith
-
 
 halo_ranged : (head : Text) (f : ℕ) → points_head head ≡ None → IsRangedHaloPart (halo_part head f)
 halo_ranged head f good = record {

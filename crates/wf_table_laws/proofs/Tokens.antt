@@ -1,17 +1,16 @@
 -- What holds of the tokens' readers: numbers are in their range, levels are there, and only a node is counted.
-use Rattle.std.proofs.Common.{◌≡◌, ℕ, suc, ◌+◌, ◌<◌, ◌≤◌, Bool, true, false, nat_lt, nat_le, IsTrue, List, [], ◌∷◌, length, Option, Some, None, Result, Ok, Err, ℤ, pos, refl, sym, ap, ◌∙◌, codes, arith, position, if◌then◌else◌}
+use Rattle.std.proofs.Common.{◌≡◌, ℕ, suc, ◌+◌, ◌<◌, ◌≤◌, Bool, true, false, nat_lt, nat_le, IsTrue, [], ◌∷◌, length, Result, ℤ, pos, refl, ap, ◌∙◌, arith, position, if◌then◌else◌}
 use Rattle.std.specs.Prelude.{unsigned_abs, neg_ℤ, ◌&&◌}
 use Rattle.std.specs.List.{list_all, slice_get}
 use Rattle.std.specs.Char.{to_ascii_lowercase}
-use Rattle.std.specs.Str.{bytes_eq}
 use Rattle.std.proofs.lemmas.Bool.Decides.{nat_tests}
 use Rattle.wf_model.specs.declared.table.Names.{Names}
-use Rattle.wf_model.specs.Letters.{Text, lower, is_name, is_name_byte, is_digits, is_number_within, digits_value}
-use Rattle.wf_model.specs.Tokens.{At, Reader, next, is_next, past, expect, name_next, number, signed}
+use Rattle.wf_model.specs.Letters.{Text, lower, is_name, is_name_byte, is_digits, digits_value}
+use Rattle.wf_model.specs.Tokens.{At, next, is_next, past, expect, name_next, number, signed}
 use Rattle.wf_model.specs.TableNames.{level, field_name, is_level, has_z, most_dk}
-use Rattle.wf_model.specs.ExprText.{node, most_nodes}
+use Rattle.wf_model.specs.ExprText.{node}
 use Rattle.wf_model.proofs.FirstPlaces.{found}
-use Rattle.wf_table_laws.proofs.Yields.{Yields, yields-ok, yields-err, yields-or, chain, choose, weaker}
+use Rattle.wf_table_laws.proofs.Yields.{Yields, yields-ok, yields-err, yields-or, chain, choose}
 
 -- ---- words
 

@@ -1,5 +1,5 @@
 -- What holds of the items of a table that was read.
-use Rattle.std.specs.Prelude.{◌≡◌, ℕ, ◌<◌, ◌≤◌, true, List, [], length, All, Any, AllPairs, Ok, IsFalse}
+use Rattle.std.specs.Prelude.{◌≡◌, ℕ, ◌<◌, ◌≤◌, true, List, [], length, All, Any, AllPairs, Ok, IsFalse, unsigned_abs}
 use Rattle.wf_model.specs.declared.plan.HaloPart.{HaloPart}
 use Rattle.wf_model.specs.declared.plan.PeriodPart.{PeriodPart}
 use Rattle.wf_model.specs.declared.plan.Item.{Item}
@@ -10,7 +10,8 @@ use Rattle.wf_model.specs.Letters.{Text, is_among}
 use Rattle.wf_model.specs.Reads.{Read, reads_of, margin_of}
 use Rattle.wf_model.specs.ExprFacts.{parts_of}
 use Rattle.wf_model.specs.Ranges.{IsRangedItem}
-use Rattle.wf_model.specs.Sound.{CallsHooks}
+use Rattle.wf_model.specs.Sound.{CallsHooks, IsLevel, IsSoundHaloPart}
+use Rattle.wf_model.specs.TableNames.{most_dk}
 use Rattle.wf_model.specs.Table.{table_of, phase_names, taken_phases}
 use Rattle.wf_table_laws.specs.Premises.{HasRangedParts, HasKnownLevels}
 
@@ -53,12 +54,17 @@ MarginsAreSmall = (plan : Plan) → All IsRangedItem plan.items → margin_of pl
 
 -- ---- names
 
+-- a read is of a level that there is, and goes no further in k than reads of it may: not at all without a z letter
+pub record IsKnownRead (names : Names) (r : Read) : Type 0 where
+  pub level : r.field < length names.levels
+  pub near : unsigned_abs r.dk ≤ most_dk names r.field
+
 -- a halo's and a period's parts are those of a name, a swap exchanges the two levels of a field, and a phase writes and reads levels that there are
 abbrev pub IsOfNames : Names → Item → Type 0
 IsOfNames names (item.Halo parts) = Any (λ (halo : Text × List HaloPart). halo.1 ≡ parts) names.halos
 IsOfNames names (item.Period parts) = Any (λ (period : Text × List PeriodPart). period.1 ≡ parts) names.periods
 IsOfNames names (item.Swap one two) = Any (λ (field : Text × ℕ × ℕ). (field.1 ≡ one) × (field.2 ≡ two)) names.fields × (one ≡ two → ⊥)
-IsOfNames names (item.Phase ph) = (ph.writes < length names.levels) × All (λ (r : Read). r.field < length names.levels) (reads_of ph.expr)
+IsOfNames names (item.Phase ph) = (ph.writes < length names.levels) × All (IsKnownRead names) (reads_of ph.expr)
 
 abbrev pub ItemsAreOfNames : Type 0
 ItemsAreOfNames = ItemsKeep Anything (λ names items. All (IsOfNames names) items)
@@ -72,6 +78,20 @@ UsesLevels count (item.Phase ph) = (ph.writes < count) × All (λ (r : Read). r.
 
 abbrev pub ItemsUseLevels : Type 0
 ItemsUseLevels = ItemsKeep HasKnownLevels (λ names items. All (UsesLevels (length names.levels)) items)
+
+-- ---- halos and periods of a plan
+
+-- a halo's and a period's parts are as a plan asks
+abbrev pub IsSoundExchange : Plan → Item → Type 0
+IsSoundExchange plan (item.Halo parts) = All (IsSoundHaloPart plan) parts
+IsSoundExchange plan (item.Period parts) = All (λ (p : PeriodPart). IsLevel plan p.field) parts
+IsSoundExchange plan (item.Swap one two) = Unit {0}
+IsSoundExchange plan (item.Phase ph) = Unit {0}
+
+abbrev pub ExchangesAreSound : Type 0
+ExchangesAreSound =
+    (plan : Plan) (items : List Item) → All (UsesLevels (length plan.fields)) items → All IsRangedItem items → All HasNarrowCrosses items
+    → All (IsSoundExchange plan) items
 
 -- ---- calls
 

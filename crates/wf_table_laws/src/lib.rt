@@ -1,7 +1,8 @@
-//! Laws of the stencil table: what the items of a table that was read keep.
+//! Laws of the stencil table: what the items of a table that was read keep. They are said of each table, each list of
+//! names, and each list of items that `table_of` gives of them, so of what `read_table` gives.
 #![tactic(auto)]
 
-ghost use Rattle.wf_table_laws.specs.ItemLaws.{ItemsAreRanged, CrossesAreNarrow, ItemsAreFew, PhaseNamesDiffer, MarginsAreSmall, ItemsAreOfNames, ItemsUseLevels, CallsAreHooks, NothingIsCalled};
+ghost use Rattle.wf_table_laws.specs.ItemLaws.{ItemsAreRanged, CrossesAreNarrow, ItemsAreFew, PhaseNamesDiffer, MarginsAreSmall, ItemsAreOfNames, ItemsUseLevels, ExchangesAreSound, CallsAreHooks, NothingIsCalled};
 ghost use Rattle.wf_table_laws.specs.NamesLaws.{NamesAreRanged, BoundNamesAreRanged, NamesUseLevels, BoundTablesAreSound};
 
 /// The numbers of the items are in their ranges, where those of the names are: radii and widths of 1 to 6, calls of at
@@ -31,7 +32,7 @@ pub fn margins_are_small()
 {}
 
 /// Each halo and period has the parts of one of the names, each swap exchanges the two different levels of a field, and
-/// each phase writes and reads levels that there are.
+/// each phase writes and reads levels that there are; a level without a z letter is read at the point's own k.
 pub fn items_are_of_names()
     ensures { ItemsAreOfNames }
 {}
@@ -39,6 +40,12 @@ pub fn items_are_of_names()
 /// Each level that an item names is there, where those of the names are.
 pub fn items_use_levels()
     ensures { ItemsUseLevels }
+{}
+
+/// The parts of halos and periods are as a plan asks, where their levels are among the plan's, and radii and widths are
+/// in their ranges.
+pub fn exchanges_are_sound()
+    ensures { ExchangesAreSound }
 {}
 
 /// Each call is of a stored function that is for calls, with as many arguments as it takes.
