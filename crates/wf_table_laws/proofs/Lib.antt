@@ -1,0 +1,14 @@
+pub mod Yields
+pub mod Tokens
+pub mod Finds
+pub mod Layers
+pub mod Rules
+pub mod Operators
+pub mod Walk
+pub mod Keeping
+pub mod Items
+pub mod ItemLines
+pub mod Follows
+pub mod Margins
+pub mod NamesOfConfig
+pub mod BoundNames

@@ -1,0 +1,3 @@
+pub mod Premises
+pub mod ItemLaws
+pub mod NamesLaws
