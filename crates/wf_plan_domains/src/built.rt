@@ -7,8 +7,9 @@ ghost use Rattle.wf_model.specs.Reading.{first_fault};
 ghost use Rattle.wf_plan_domains.specs.DomainTests.{asks_of, unbuilt_found, unbuilt_of};
 
 use crate::built::Asks::{Above, Set};
+use crate::error::Found;
 use crate::numbers::amount;
-use std::alloc::{AllocError, Global};
+use std::alloc::Global;
 use wf_model::{Bytes, Config, PlanFault, Value, values_of};
 
 /// Which values of a name ask for something.
@@ -112,11 +113,7 @@ fn first_values(values: &[Value], most: u128) -> &[Value]
 }
 
 /// The fault where some value of a domain up to the last asks for the feature.
-fn feature_fault(
-    alloc: Global,
-    config: &Config,
-    feature: &Feature,
-) -> Result<Option<PlanFault>, AllocError>
+fn feature_fault(alloc: Global, config: &Config, feature: &Feature) -> Found
     ensures { IfOk result (λ f. f ≡ unbuilt_fault config.now (unbuilt_of feature.now)) }
 {
     let name = feature.name.as_bytes();
@@ -130,11 +127,7 @@ fn feature_fault(
 }
 
 /// The first fault of a feature.
-fn first_fault(
-    alloc: Global,
-    config: &Config,
-    features: &[Feature],
-) -> Result<Option<PlanFault>, AllocError>
+fn first_fault(alloc: Global, config: &Config, features: &[Feature]) -> Found
     ensures { IfOk result (λ f. f ≡ first_fault (map (λ x. unbuilt_fault config.now (unbuilt_of x)) features.now)) }
 {
     for feature in features {
@@ -147,7 +140,7 @@ fn first_fault(
 }
 
 /// The first feature that isn't built and that the config asks for.
-pub(crate) fn unbuilt_fault(alloc: Global, config: &Config) -> Result<Option<PlanFault>, AllocError>
+pub(crate) fn unbuilt_fault(alloc: Global, config: &Config) -> Found
     ensures { IfOk result (λ f. f ≡ unbuilt_found config.now) }
 {
     let features = features();

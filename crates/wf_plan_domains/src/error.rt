@@ -32,6 +32,9 @@ impl PlanError {
     }
 }
 
+/// A fault, or none; or want of memory.
+pub(crate) type Found = Result<Option<PlanFault>, AllocError>;
+
 /// The name of a fault's kind.
 pub(crate) fn kind(fault: &PlanFault) -> &'static str {
     match fault {

@@ -8,14 +8,12 @@ ghost use Rattle.wf_model.specs.Plans.{up_to};
 ghost use Rattle.wf_model.specs.Reading.{first_fault};
 ghost use Rattle.wf_plan_domains.specs.DomainTests.{intervals_found, stream_minutes};
 
+use crate::error::Found;
 use crate::numbers::{is_multiple, small_amount};
 use crate::shape::shape_at;
 use crate::streams::interval_names;
 use std::alloc::AllocError;
 use wf_model::{Config, Plan, PlanFault};
-
-/// A fault, or none; or want of memory.
-type Found = Result<Option<PlanFault>, AllocError>;
 
 /// The number that an interval fault has for restart files.
 const RESTART: u32 = 10;

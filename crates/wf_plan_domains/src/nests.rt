@@ -9,7 +9,7 @@ use crate::numbers::{is_multiple, quotient};
 use crate::shape::shape_at;
 use wf_model::{Plan, PlanFault};
 
-/// A nest's parent comes before it.
+/// The fault of a nest whose parent doesn't come before it.
 fn parent_fault(plan: &Plan, nest: u32) -> Option<PlanFault>
     ensures { result ≡ parent_fault plan.now nest }
 {
@@ -20,7 +20,7 @@ fn parent_fault(plan: &Plan, nest: u32) -> Option<PlanFault>
     None
 }
 
-/// The grid ratio is odd.
+/// The fault of an even grid ratio.
 fn ratio_fault(plan: &Plan, nest: u32) -> Option<PlanFault>
     ensures { result ≡ ratio_fault plan.now nest }
 {
@@ -30,7 +30,7 @@ fn ratio_fault(plan: &Plan, nest: u32) -> Option<PlanFault>
     None
 }
 
-/// A nest covers whole cells of its parent, and has as many levels.
+/// The fault of a nest that doesn't cover whole cells of its parent, or has another number of levels.
 fn size_fault(plan: &Plan, nest: u32) -> Option<PlanFault>
     ensures { result ≡ size_fault plan.now nest }
 {
@@ -52,7 +52,7 @@ fn is_at_edge(start: u64, cells: u64, points: u64) -> bool
     start < 2 || u128::from(points) < u128::from(start) + u128::from(cells)
 }
 
-/// A nest keeps clear of its parent's edge.
+/// The fault of a nest that touches its parent's edge.
 fn edge_fault(plan: &Plan, nest: u32) -> Option<PlanFault>
     ensures { result ≡ edge_fault plan.now nest }
 {
@@ -71,7 +71,7 @@ fn edge_fault(plan: &Plan, nest: u32) -> Option<PlanFault>
     None
 }
 
-/// No nest is periodic.
+/// The fault of a periodic nest.
 fn periodic_fault(plan: &Plan, nest: u32) -> Option<PlanFault>
     ensures { result ≡ periodic_fault plan.now nest }
 {
@@ -82,7 +82,7 @@ fn periodic_fault(plan: &Plan, nest: u32) -> Option<PlanFault>
     None
 }
 
-/// A nest's steps fill its parent's.
+/// The fault of a nest whose steps don't fill its parent's.
 fn step_fault(plan: &Plan, nest: u32) -> Option<PlanFault>
     ensures { result ≡ step_fault plan.now nest }
 {
@@ -113,7 +113,7 @@ fn counted_start(plan: &Plan, time: i64) -> i64
     if plan.restart { time.max(0) } else { time }
 }
 
-/// A nest starts at a step of its parent, not before it, and not before domain 1 without restart.
+/// The fault of a nest that starts at no step of its parent, before its parent, or without restart before domain 1.
 fn start_fault(plan: &Plan, nest: u32) -> Option<PlanFault>
     ensures { result ≡ start_fault plan.now nest }
 {

@@ -38,7 +38,7 @@ pub(crate) fn quotient(number: u64, divisor: u64) -> u64
     if divisor == 0 { 0 } else { number / divisor }
 }
 
-/// Whether the second number divides the first; 0 divides 0 alone.
+/// Whether a number is a multiple of this one; of 0 only 0 is.
 pub(crate) fn is_multiple(number: u64, of_this: u64) -> bool
     ensures { result ≡ is_multiple number of_this }
 {

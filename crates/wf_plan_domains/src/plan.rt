@@ -11,7 +11,7 @@ ghost use Rattle.wf_plan_domains.specs.DomainTests.{nests_found};
 
 use crate::built::unbuilt_fault;
 use crate::domains::{domain_total, domains_to};
-use crate::error::PlanError;
+use crate::error::{Found, PlanError};
 use crate::intervals::intervals_fault;
 use crate::nests::{NestTest, nests_fault};
 use crate::numbers::{flag, quotient, small_amount};
@@ -68,11 +68,7 @@ fn nests_before_run(plan: &Plan, total: u32) -> Option<PlanFault>
 }
 
 /// The first fault of domains and times.
-pub(crate) fn domains_fault(
-    config: &Config,
-    plan: &Plan,
-    total: u32,
-) -> Result<Option<PlanFault>, AllocError>
+pub(crate) fn domains_fault(config: &Config, plan: &Plan, total: u32) -> Found
     requires count { total ≡ length plan.now.domains }
     requires most { total ≤ 8 }
     ensures { IfOk result (λ f. f ≡ first_fault (domain_faults config.now plan.now)) }

@@ -9,6 +9,7 @@ ghost use Rattle.wf_model.specs.Plans.{up_to};
 ghost use Rattle.wf_model.specs.Reading.{first_fault};
 ghost use Rattle.wf_stamp.specs.Moments.{day_at};
 
+use crate::error::Found;
 use crate::numbers::{amount, is_multiple, small_amount};
 use crate::shape::shape_at;
 use std::alloc::AllocError;
@@ -96,7 +97,7 @@ pub(crate) fn run_seconds(config: &Config) -> Result<u64, AllocError>
 }
 
 /// The fault of a run that ends past the year 9999.
-pub(crate) fn end_fault(config: &Config) -> Result<Option<PlanFault>, AllocError>
+pub(crate) fn end_fault(config: &Config) -> Found
     ensures { IfOk result (λ f. f ≡ end_fault config.now) }
 {
     let start = start_stamp(config, 1)?;
@@ -108,7 +109,7 @@ pub(crate) fn end_fault(config: &Config) -> Result<Option<PlanFault>, AllocError
 }
 
 /// The fault of a run that domain 1's steps do not fill.
-pub(crate) fn run_fault(config: &Config, plan: &Plan) -> Result<Option<PlanFault>, AllocError>
+pub(crate) fn run_fault(config: &Config, plan: &Plan) -> Found
     ensures { IfOk result (λ f. f ≡ run_fault config.now plan.now) }
 {
     if is_multiple(run_seconds(config)?, shape_at(plan, 1).seconds) {

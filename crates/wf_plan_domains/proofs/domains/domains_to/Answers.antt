@@ -1,6 +1,5 @@
-use Rattle.std.proofs.Common.{ap, sym, ◌∙◌}
+use Rattle.std.proofs.Common.{◌+◌, ap, sym, ◌∙◌}
 use Rattle.wf_model.specs.PlanDomains.{domain_from}
-use Rattle.std.proofs.Common.{◌+◌}
 use Rattle.wf_plan_domains.proofs.MadeDomains.{none_made, one_made}
 use Rattle.wf_plan_domains.proofs.domains.domains_to.Goals as goal
 
