@@ -10,7 +10,7 @@ ghost use Rattle.wf_plan_fields.specs.LevelFields.{IsShape, extents_of, held_by,
 use crate::dimensions::{dataset_of, last_letter, letter_at, z_extent, z_name};
 use crate::hooks::hook_id;
 use crate::io::{Use, parts_of};
-use crate::made::Levels;
+use crate::level_lists::Levels;
 use crate::streams::{has_letter, has_restart, reads_input, streams_of};
 use std::alloc::{AllocError, Global};
 use wf_model::{Bytes, Config, Entry, Field, HookName, List, Name};
@@ -187,7 +187,7 @@ fn level_of(
     })
 }
 
-/// Adds a level of these.
+/// Adds a level, and its extent.
 fn push_level(made: &mut Made, common: &Common, field: Field) -> Result<(), AllocError>
     ensures fields { OnOk result (made.new.fields.items ≡ made.old.fields.items ++ field ∷ []) }
     ensures extents { OnOk result (made.new.extents.items ≡ made.old.extents.items ++ common.now.shape.extent ∷ []) }
@@ -315,7 +315,7 @@ fn made_of(
 ///
 /// The error is want of memory; it also comes where an extent or a number of levels doesn't fit its type, where the
 /// text behind `constant=` is no number of 32 bits, or where the name of a level or of a variable is none that a `Name`
-/// can hold, which is so for no config of a Registry that was read but for names of levels above 64 bytes.
+/// can hold, which no config of a Registry that was read has.
 pub fn levels(alloc: Global, config: &Config, hooks: &[HookName]) -> Result<Levels, AllocError>
     ensures fields { IfOk result (λ l. l.fields ≡ fields_from config.now hooks.now 0 config.now.fields) }
     ensures extents { IfOk result (λ l. l.extents ≡ z_extents config.now) }

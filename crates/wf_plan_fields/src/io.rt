@@ -41,6 +41,7 @@ type Sized = (Part, usize);
 
 // ---- words
 
+/// How many digits stand at the front.
 fn digit_count(bytes: &[u8]) -> usize
     ensures count { result ≡ length (take_while is_ascii_digit bytes.now) }
     ensures bound { result ≤ length bytes.now }
@@ -48,6 +49,7 @@ fn digit_count(bytes: &[u8]) -> usize
     bytes.iter().take_while(|b| b.is_ascii_digit()).count()
 }
 
+/// The place of the first such byte, from 0.
 fn find_byte(bytes: &[u8], wanted: u8) -> Option<usize>
     ensures { result ≡ position (λ b. b == wanted) bytes.now }
 {
@@ -77,6 +79,7 @@ fn before(bytes: &[u8], wanted: u8) -> &[u8]
 
 // ---- parts
 
+/// The numbers of digits, one by one.
 fn digit_values(alloc: Global, digits: &[u8]) -> Result<Vec<u8>, AllocError>
     ensures { IfOk result (λ v. v.items ≡ map (λ c. c - 48) digits.now) }
 {

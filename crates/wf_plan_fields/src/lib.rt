@@ -5,11 +5,11 @@ mod dimensions;
 mod field_levels;
 mod hooks;
 mod io;
-mod made;
+mod level_lists;
 mod streams;
 
 pub use field_levels::levels;
-pub use made::Levels;
+pub use level_lists::Levels;
 
 #[cfg(test)]
 mod tests;

@@ -58,9 +58,9 @@ fn value(rt: &HostRuntime, item: &str, number: i128) -> Result<(Name, List<Value
     Ok((name(rt, item)?, List::from_vec(values)))
 }
 
-/// A config of this field: `i`, `k` and `j` as WRF has them, `l` by the name `layers`, which is 3, and `m` with 5
+/// A config of these fields: `i`, `k` and `j` as WRF has them, `l` by the name `layers`, which is 3, and `m` with 5
 /// levels.
-fn config(rt: &HostRuntime, field: Entry) -> Result<Config, AllocError> {
+fn config(rt: &HostRuntime, fields: Vec<Entry>) -> Result<Config, AllocError> {
     let mut values = Vec::new(rt.alloc());
     values.push(value(rt, "e_vert", 9)?)?;
     values.push(value(rt, "layers", 3)?)?;
@@ -70,8 +70,6 @@ fn config(rt: &HostRuntime, field: Entry) -> Result<Config, AllocError> {
     dims.push(dimspec(rt, b'j', "standard_domain", b'y', "south_north")?)?;
     dims.push(dimspec(rt, b'l', "namelist=LAYERS", b'z', "layers")?)?;
     dims.push(dimspec(rt, b'm', "constant=5", b'z', "soil")?)?;
-    let mut fields = Vec::new(rt.alloc());
-    fields.push(field)?;
     Ok(Config {
         values: List::from_vec(values),
         dims: List::from_vec(dims),
@@ -106,16 +104,25 @@ fn names(rt: &HostRuntime, field: &Field) -> Result<String, AllocError> {
 }
 
 fn made(rt: &HostRuntime, field: Entry, hooks: &[HookName]) -> Result<Levels, AllocError> {
-    levels(rt.alloc(), &config(rt, field)?, hooks)
+    let mut fields = Vec::new(rt.alloc());
+    fields.push(field)?;
+    levels(rt.alloc(), &config(rt, fields)?, hooks)
 }
 
+/// Levels are numbered from 0 in the order of the fields.
 #[test]
-fn field_of_two_letters_has_one_level(rt: HostRuntime) -> Result<(), Fail> {
-    let made = made(&rt, state(&rt, "a", "ij", "1", "-", "i0rhudf")?, &[])?;
+fn fields_of_two_letters_have_one_level(rt: HostRuntime) -> Result<(), Fail> {
+    let mut entries = Vec::new(rt.alloc());
+    entries.push(state(&rt, "a", "ij", "1", "-", "i0rhudf")?)?;
+    entries.push(state(&rt, "b", "ij", "1", "-", "rh")?)?;
+    let made = levels(rt.alloc(), &config(&rt, entries)?, &[])?;
     let fields = made.fields.as_slice();
-    assert_eq!(rt; fields.len(), 1);
+    assert_eq!(rt; fields.len(), 2);
     assert_eq!(rt; numbers(&rt, &fields[0])?.as_str(), "a 0 true 1 1");
+    assert_eq!(rt; numbers(&rt, &fields[1])?.as_str(), "b 1 true 1 1");
     assert_eq!(rt; names(&rt, &fields[0])?.as_str(), "west_east south_north ");
+    assert!(rt; fields[0].input && fields[0].restart);
+    assert!(rt; !fields[1].input && fields[1].restart);
     Ok(())
 }
 

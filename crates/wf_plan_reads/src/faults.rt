@@ -25,6 +25,7 @@ fn copy_bytes(alloc: Global, bytes: &[u8]) -> Result<Bytes, AllocError>
 
 // ---- levels
 
+/// Of this level.
 fn past_levels(alloc: Global, plan: &Plan, phase: &Phase, field: u32) -> Found
     ensures { IfOk result (λ f. f ≡ Some (past_levels plan.now phase.now field)) }
 {
@@ -78,6 +79,7 @@ fn phase_levels(
     }
 }
 
+/// The same of an item, where it is a phase.
 fn item_levels(alloc: Global, plan: &Plan, extents: &[i64], domain: &Domain, item: &Item) -> Found
     ensures { IfOk result (λ f. f ≡ first_fault (of_item (levels_in plan.now extents.now domain.now) item.now)) }
 {
@@ -87,7 +89,7 @@ fn item_levels(alloc: Global, plan: &Plan, extents: &[i64], domain: &Domain, ite
     }
 }
 
-/// The first of these in a domain.
+/// The first fault of levels of a domain's phases.
 fn domain_levels(alloc: Global, plan: &Plan, extents: &[i64], domain: &Domain) -> Found
     ensures { IfOk result (λ f. f ≡ first_fault (flat_map (of_item (levels_in plan.now extents.now domain.now)) plan.now.items)) }
 {
@@ -100,7 +102,7 @@ fn domain_levels(alloc: Global, plan: &Plan, extents: &[i64], domain: &Domain) -
     Ok(None)
 }
 
-/// The first of these.
+/// The first fault of levels.
 fn levels_fault(alloc: Global, plan: &Plan, extents: &[i64]) -> Found
     ensures { IfOk result (λ f. f ≡ first_fault (flat_map (λ d. flat_map (of_item (levels_in plan.now extents.now (domain_of plan.now d))) plan.now.items) (domains_of plan.now))) }
 {
@@ -115,6 +117,7 @@ fn levels_fault(alloc: Global, plan: &Plan, extents: &[i64]) -> Found
 
 // ---- edges
 
+/// Of this level.
 fn past_edge(alloc: Global, plan: &Plan, domain: u32, phase: &Phase, field: u32) -> Found
     ensures { IfOk result (λ f. f ≡ Some (past_edge plan.now domain phase.now field)) }
 {
@@ -160,6 +163,7 @@ fn phase_edges(
     }
 }
 
+/// The same of an item, where it is a phase.
 fn item_edges(
     alloc: Global,
     plan: &Plan,
@@ -176,7 +180,7 @@ fn item_edges(
     }
 }
 
-/// The first of these in a domain.
+/// The first fault of edges of a domain's phases.
 fn domain_edges(alloc: Global, plan: &Plan, extents: &[i64], number: u32, domain: &Domain) -> Found
     ensures { IfOk result (λ f. f ≡ first_fault (flat_map (of_item (edges_in plan.now extents.now number domain.now)) plan.now.items)) }
 {
@@ -189,7 +193,7 @@ fn domain_edges(alloc: Global, plan: &Plan, extents: &[i64], number: u32, domain
     Ok(None)
 }
 
-/// The first of these.
+/// The first fault of edges.
 fn edges_fault(alloc: Global, plan: &Plan, extents: &[i64]) -> Found
     ensures { IfOk result (λ f. f ≡ first_fault (flat_map (λ d. flat_map (of_item (edges_in plan.now extents.now d (domain_of plan.now d))) plan.now.items) (domains_of plan.now))) }
 {
