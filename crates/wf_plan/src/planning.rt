@@ -15,11 +15,7 @@ use wf_plan_reads::read_fault;
 
 /// The first fault of what phases read, and else of limits.
 #[tactic(auto, using(crate::proofs::ItemFaults::in_reads, crate::proofs::ItemFaults::in_limits))]
-fn item_fault(
-    alloc: Global,
-    plan: &Plan,
-    extents: &[i64],
-) -> Result<Option<PlanFault>, AllocError>
+fn item_fault(alloc: Global, plan: &Plan, extents: &[i64]) -> Result<Option<PlanFault>, AllocError>
     ensures { IfOk result (λ f. f ≡ first_fault (item_faults plan.now extents.now)) }
 {
     match read_fault(alloc, plan, extents)? {

@@ -37,10 +37,7 @@ fn value(rt: &HostRuntime, item: &str, number: i128) -> Result<(Name, List<Value
     Ok((name(rt, item)?, List::from_vec(values)))
 }
 
-fn values(
-    rt: &HostRuntime,
-    domains: i128,
-) -> Result<List<(Name, List<Value>)>, AllocError> {
+fn values(rt: &HostRuntime, domains: i128) -> Result<List<(Name, List<Value>)>, AllocError> {
     let mut all = Vec::new(rt.alloc());
     all.push(value(rt, "max_dom", domains)?)?;
     for (item, number) in BASE.as_slice() {
@@ -80,12 +77,7 @@ fn field(rt: &HostRuntime, dims: &str) -> Result<Entry, AllocError> {
 }
 
 /// The config of so many domains, with a field of these dimensions, of which `k` has this extent.
-fn config(
-    rt: &HostRuntime,
-    domains: i128,
-    dims: &str,
-    levels: &str,
-) -> Result<Config, AllocError> {
+fn config(rt: &HostRuntime, domains: i128, dims: &str, levels: &str) -> Result<Config, AllocError> {
     let entries = vec![in rt.alloc();
         dimspec(rt, b'i', "standard_domain", b'x', "west_east")?,
         dimspec(rt, b'j', "standard_domain", b'y', "south_north")?,
