@@ -78,4 +78,3 @@ added xs new x (Err y) is e = absurd cc
 -- the files of the lines behind the first
 pub within_later : (n : ℕ) (rest later : List KeptLine) (l : KeptLine) → rest ≡ l ∷ later → All (λ (k : KeptLine). k.file < n) rest → All (λ (k : KeptLine). k.file < n) later
 within_later n rest later l is all = All-tail (λ (k : KeptLine). k.file < n) l later (subst (All (λ (k : KeptLine). k.file < n)) is all)
-

@@ -65,12 +65,7 @@ fn with_words(
 }
 
 /// Why a line at this place has no entry, with its file's name.
-fn located(
-    alloc: Global,
-    files: &[SourceFile],
-    place: LinePlace,
-    error: LineError,
-) -> RegistryError
+fn located(alloc: Global, files: &[SourceFile], place: LinePlace, error: LineError) -> RegistryError
     requires { place.file < length files.now }
     ensures { (l : KeptLine) → place_of l ≡ place → TellsAt (kept_in files.now l) (rule_of error) (fault_of result) }
 {

@@ -1,4 +1,4 @@
-use Rattle.std.proofs.Common.{◌≡◌, ◌∙◌, ap, subst, sym, refl, Ok, ◌++◌, ◌∷◌, [], map}
+use Rattle.std.proofs.Common.{◌≡◌, ◌∙◌, ap, subst, sym, refl, Ok, ◌++◌, map}
 use Rattle.std.specs.Vec.Iter.{into_iter_items}
 use Rattle.wf_model.specs.Reading.{Fails}
 use Rattle.wf_registry_columns.specs.Words.{word_texts}
@@ -19,11 +19,12 @@ pub loop-line-preserved : goal.loop-line-preserved
 loop-line-preserved c =
     let rest = into_iter_items c.loop-line.line-iterator in
     let later = into_iter_items c.next.new.self in
-    let is = c.in-Some.ensures.steps.0 in
-    (judged_more c.args.all.now c.loop-line.declared c.in-Ok.after c.args.files.now rest later c.in-Some.line _ is
-    (subst (λ ws. words_judged c.args.all.now c.loop-line.declared (word_texts ws) ≡ Ok c.in-Ok.after) c.as_slice.ensures c.in-Ok.ensures) c.loop-line.invariant.0,
-    ap (λ ps. ps ++ map place_of later) (added c.loop-line.places.items _ (place_of c.in-Some.line) c.push.result c.push.ensures.items (sym c.is_err.ensures.value ∙ c.if-is_err.false)) ∙ placed_more c.loop-line.places.items rest later c.args.lines.items c.in-Some.line is c.loop-line.invariant.1,
-    within_later _ rest later c.in-Some.line is c.loop-line.invariant.2)
+    let is = c.in-Some.ensures.steps.0 in (
+      judged_more c.args.all.now c.loop-line.declared c.in-Ok.after c.args.files.now rest later c.in-Some.line _ is
+          (subst (λ ws. words_judged c.args.all.now c.loop-line.declared (word_texts ws) ≡ Ok c.in-Ok.after) c.as_slice.ensures c.in-Ok.ensures) c.loop-line.invariant.0,
+      ap (λ ps. ps ++ map place_of later) (added c.loop-line.places.items _ (place_of c.in-Some.line) c.push.result c.push.ensures.items (sym c.is_err.ensures.value ∙ c.if-is_err.false)) ∙ placed_more c.loop-line.places.items rest later c.args.lines.items c.in-Some.line is c.loop-line.invariant.1,
+      within_later _ rest later c.in-Some.line is c.loop-line.invariant.2,
+    )
 
 pub returns-clause-entries : goal.returns-clause-entries
 returns-clause-entries c =

@@ -1,7 +1,6 @@
-use Rattle.std.proofs.Common.{◌≡◌, ◌<◌, ◌∙◌, sym, ap, subst, Some, None, Ok, [], map, arith, IfSome, IfNone, length, List, get_or}
+use Rattle.std.proofs.Common.{◌≡◌, ◌<◌, ◌∙◌, sym, ap, subst, Some, None, [], arith, IfSome, IfNone, length, List}
 use Rattle.std.specs.List.{All}
 use Rattle.std.proofs.lemmas.Result.{err_from_is_err_and}
-use Rattle.wf_model.specs.Reading.{Fails}
 use Rattle.wf_registry_columns.specs.Axes.{HasAxesOf}
 use Rattle.wf_registry_lines.specs.declared.KeptLine.{KeptLine}
 use Rattle.wf_registry.specs.declared.judging.LinePlace.{LinePlace}
