@@ -1,0 +1,2 @@
+pub mod EntryRules
+pub mod RegistryLaws

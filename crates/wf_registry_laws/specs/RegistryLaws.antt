@@ -1,0 +1,31 @@
+-- A Registry that was read is sound: each entry keeps the rules of its kind, and no name is declared twice.
+use Rattle.std.specs.Prelude.{◌≡◌, List, [], ◌∷◌, ◌++◌, flat_map, IsTrue, All, Ok, codes}
+use Rattle.std.specs.List.{IsDistinct}
+use Rattle.std.specs.Str.{bytes_eq}
+use Rattle.wf_model.specs.declared.registry.SourceFile.{SourceFile}
+use Rattle.wf_model.specs.declared.registry.Registry.{Registry}
+use Rattle.wf_model.specs.declared.registry.Entry.{Entry}
+use Rattle.wf_model.specs.Letters.{Text}
+use Rattle.wf_model.specs.KeptLines.{Defines}
+use Rattle.wf_model.specs.Entries.{entry_symbol, entry_levels, entry_variables, entry_datasets}
+use Rattle.wf_model.specs.Judging.{taken_datasets}
+use Rattle.wf_model.specs.Registry.{registry_of, names_known}
+use Rattle.wf_registry_laws.specs.EntryRules.{IsSoundEntry}
+
+-- no two texts are equal
+abbrev pub AreDistinct : List Text → Type 0
+AreDistinct names = IsDistinct bytes_eq names
+
+pub record IsSoundRegistry (entries : List Entry) : Type 0 where
+  pub rules : All (IsSoundEntry entries) entries
+  -- each name that an entry uses is declared
+  pub known : All (λ e. IsTrue (names_known entries e)) entries
+  pub symbols : AreDistinct (flat_map entry_symbol entries)
+  pub levels : AreDistinct (flat_map entry_levels entries)
+  -- and none is the name of a variable or dimension that every file has
+  pub variables : AreDistinct (codes "Times" ∷ flat_map entry_variables entries)
+  pub datasets : AreDistinct (taken_datasets ++ flat_map entry_datasets entries)
+
+-- what is read is sound
+abbrev pub RegistriesAreSound : Type 0
+RegistriesAreSound = (files : List SourceFile) (defines : Defines) (registry : Registry) → registry_of files defines ≡ Ok registry → IsSoundRegistry registry.entries
