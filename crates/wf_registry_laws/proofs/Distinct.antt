@@ -1,11 +1,12 @@
 -- Texts of which no two are equal.
-use Rattle.std.proofs.Common.{◌≡◌, ℕ, ◌+◌, ◌<◌, Bool, true, false, List, [], ◌∷◌, ◌++◌, length, refl, sym, ap, ◌∙◌, subst, length-append, get_or, append_assoc, arith}
-use Rattle.std.specs.Prelude.{◌||◌, if◌then◌else◌, flat_map, codes}
+use Rattle.std.proofs.Common.{◌≡◌, ℕ, ◌+◌, ◌<◌, Bool, true, false, cond, List, [], ◌∷◌, ◌++◌, length, refl, sym, ap, ◌∙◌, subst, length-append, get_or, append_assoc, arith}
+use Rattle.std.specs.Prelude.{◌||◌, if◌then◌else◌, flat_map, filter, codes}
 use Rattle.std.specs.List.{list_any, IsDistinct, AllByRecursion}
 use Rattle.std.specs.Str.{bytes_eq}
 use Rattle.std.proofs.lemmas.Bool.{or_parts, or_from, false≢true}
 use Rattle.std.proofs.lemmas.List.{append_cancel_left}
 use Rattle.std.proofs.lemmas.List.Folds.{list_any-append}
+use Rattle.std.proofs.lemmas.List.Concat.{flat_map-cons}
 use Rattle.wf_model.specs.declared.registry.Entry.{Entry}
 use Rattle.wf_model.specs.declared.registry.Entry.TheVariants.{Dimspec, State, Rconfig, Package, Halo, Period}
 use Rattle.wf_model.specs.Letters.{Text, is_among, share}
@@ -154,3 +155,26 @@ own_datasets (Rconfig kind symbol how entries default) = none_distinct
 own_datasets (Package name symbol value list) = none_distinct
 own_datasets (Halo name groups) = none_distinct
 own_datasets (Period name groups) = none_distinct
+
+-- ---- fewer names
+
+share_behind : (xs ys zs : List Text) → share (xs ++ ys) zs ≡ false → share ys zs ≡ false
+share_behind [] ys zs e = e
+share_behind (x ∷ xs) ys zs e = share_behind xs ys zs (or_parts (is_among x zs) (share (xs ++ ys) zs) e).1
+
+-- without those in the middle
+pub distinct_without : (xs ys zs : List Text) → AreDistinct (xs ++ (ys ++ zs)) → AreDistinct (xs ++ zs)
+distinct_without xs ys zs a =
+    distinct_append xs zs (distinct_left xs (ys ++ zs) a) (distinct_right ys zs (distinct_right xs (ys ++ zs) a)) (share_behind ys zs xs (distinct_apart xs (ys ++ zs) a))
+
+-- of the entries that are kept
+pub distinct_kept : {X : Type 0} (names : X → List Text) (p : X → Bool) (ahead : List Text) (xs : List X) → AreDistinct (ahead ++ flat_map names xs) → AreDistinct (ahead ++ flat_map names (filter p xs))
+distinct_kept names p ahead [] a = a
+distinct_kept names p ahead (x ∷ xs) a =
+    let parted : AreDistinct (ahead ++ (names x ++ flat_map names xs)) = subst (λ ns. AreDistinct (ahead ++ ns)) (flat_map-cons names x xs) a in
+    let more : AreDistinct ((ahead ++ names x) ++ flat_map names xs) = subst (λ ns. AreDistinct ns) (sym (append_assoc ahead (names x) (flat_map names xs))) parted in
+    by (p x) (distinct_kept names p (ahead ++ names x) xs more) (distinct_kept names p ahead xs (distinct_without ahead (names x) (flat_map names xs) parted))
+  where
+    by : (b : Bool) → AreDistinct ((ahead ++ names x) ++ flat_map names (filter p xs)) → AreDistinct (ahead ++ flat_map names (filter p xs)) → AreDistinct (ahead ++ flat_map names (cond b (x ∷ filter p xs) (filter p xs)))
+    by true kept left = subst (λ ns. AreDistinct ns) (append_assoc ahead (names x) (flat_map names (filter p xs)) ∙ ap (λ ns. ahead ++ ns) (sym (flat_map-cons names x (filter p xs)))) kept
+    by false kept left = left

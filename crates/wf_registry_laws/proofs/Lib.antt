@@ -6,3 +6,5 @@ pub mod GroupRules
 pub mod Fresh
 pub mod Distinct
 pub mod Registries
+pub mod Dims
+pub mod Configs

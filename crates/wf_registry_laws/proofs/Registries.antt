@@ -42,7 +42,7 @@ no_option : {A B : Type 0} (f : A → B) (o : Option A) → option_map f o ≡ N
 no_option f None e = refl
 no_option f (Some a) e = cc
 
-none_of_two : {F : Type 0} (a b : Option F) → option_or a b ≡ None → (a ≡ None) × (b ≡ None)
+pub none_of_two : {F : Type 0} (a b : Option F) → option_or a b ≡ None → (a ≡ None) × (b ≡ None)
 none_of_two None b e = (refl, e)
 none_of_two (Some f) b e = cc
 
@@ -117,7 +117,7 @@ entries_are_sound es judged known =
           (after_weaker IsFresh (λ b e. share (entry_datasets e) (taken_datasets ++ flat_map entry_datasets b) ≡ false) (λ b e f. f.datasets) [] es fresh) (two_distinct (codes "Time") (codes "DateStrLen") refl);
     }
 
-ok_none : {A F : Type 0} (f : Option F) (a b : A) → unless_fault f a ≡ Ok b → (f ≡ None) × (a ≡ b)
+pub ok_none : {A F : Type 0} (f : Option F) (a b : A) → unless_fault f a ≡ Ok b → (f ≡ None) × (a ≡ b)
 ok_none None a b e = (refl, cc)
 ok_none (Some f) a b e = cc
 

@@ -1,2 +1,4 @@
 pub mod EntryRules
 pub mod RegistryLaws
+pub mod ConfigLaws
+pub mod FieldLaws

@@ -2,8 +2,45 @@
 #![tactic(auto)]
 
 ghost use Rattle.wf_registry_laws.specs.RegistryLaws.{RegistriesAreSound};
+ghost use Rattle.wf_registry_laws.specs.ConfigLaws.{ConfigsAreSound};
+ghost use Rattle.wf_registry_laws.specs.FieldLaws.{LevelsAreRanged, LevelsHaveTheExtents, PairsAreSound, NamesAreTheLevels, LevelNamesAreDistinct, NamedFieldsArePairs};
 
 /// The entries of a Registry that was read keep the rules of their kinds, and no name is declared twice.
 pub fn registries_are_sound()
     ensures { RegistriesAreSound }
+{}
+
+/// What a namelist is bound to keeps them too: dimensions, active fields, halos and periods.
+pub fn configs_are_sound()
+    ensures { ConfigsAreSound }
+{}
+
+/// Where each extent in z is 1 to 128, each field level of a sound config is in its ranges.
+pub fn levels_are_ranged()
+    ensures { LevelsAreRanged }
+{}
+
+/// The field levels have the extents in z of the config, in order.
+pub fn levels_have_the_extents()
+    ensures { LevelsHaveTheExtents }
+{}
+
+/// The levels of a field are one another's pair, with the same extents, staggering and restart.
+pub fn pairs_are_sound()
+    ensures { PairsAreSound }
+{}
+
+/// A table's names of levels are those of the field levels, in order.
+pub fn names_are_the_levels()
+    ensures { NamesAreTheLevels }
+{}
+
+/// No two field levels have one name.
+pub fn level_names_are_distinct()
+    ensures { LevelNamesAreDistinct }
+{}
+
+/// The two numbers that a table has for a field are levels that are one another's pair.
+pub fn named_fields_are_pairs()
+    ensures { NamedFieldsArePairs }
 {}
