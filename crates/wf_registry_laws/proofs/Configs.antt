@@ -1,19 +1,16 @@
 -- A config of a sound Registry is sound.
-use Rattle.std.proofs.Common.{◌≡◌, ℕ, ◌<◌, Bool, true, false, List, [], ◌∷◌, ◌++◌, map, length, get_or, Option, Some, None, Result, Ok, Err, refl, sym, ap, ◌∙◌, subst}
-use Rattle.std.specs.Prelude.{not, filter, flat_map, IsTrue, All, codes}
+use Rattle.std.proofs.Common.{◌≡◌, Bool, true, List, [], ◌∷◌, ◌++◌, map, get_or, Option, None, sym, ◌∙◌, subst}
+use Rattle.std.specs.Prelude.{not, filter, All, codes}
 use Rattle.std.specs.List.{AllByRecursion}
-use Rattle.std.specs.Option.{option_or}
 use Rattle.std.proofs.lemmas.Bool.{false≢true, not-false}
 use Rattle.std.proofs.lemmas.List.Elements.{All-from_recursion, All-filter, filter_passes}
 use Rattle.wf_model.proofs.ReadingLemmas.{first_fault-append}
 use Rattle.wf_model.specs.declared.registry.Registry.{Registry}
 use Rattle.wf_model.specs.declared.registry.Entry.{Entry}
 use Rattle.wf_model.specs.declared.registry.Entry.TheVariants.{Dimspec, State, Rconfig, Package, Halo, Period}
-use Rattle.wf_model.specs.declared.namelist.Namelist.{Namelist}
 use Rattle.wf_model.specs.declared.config.Config.{Config}
-use Rattle.wf_model.specs.declared.config.ConfigFault.{ConfigFault}
 use Rattle.wf_model.specs.declared.config.ConfigFault.TheVariants.{FloatState}
-use Rattle.wf_model.specs.Reading.{first_fault, unless_fault}
+use Rattle.wf_model.specs.Reading.{first_fault}
 use Rattle.wf_model.specs.Letters.{Text}
 use Rattle.wf_model.specs.Namelist.{Item}
 use Rattle.wf_model.specs.BuiltIns.{NameRule}

@@ -1,13 +1,13 @@
 -- Letters among all entries are letters among the dimspecs.
-use Rattle.std.proofs.Common.{◌≡◌, ℕ, Bool, true, false, cond, List, [], ◌∷◌, map, Option, Some, None, refl, sym, ap, ap₂, ◌∙◌}
-use Rattle.std.specs.Prelude.{◌&&◌, ◌||◌, filter, find, codes}
-use Rattle.std.specs.List.{list_all, list_any}
+use Rattle.std.proofs.Common.{◌≡◌, ℕ, Bool, true, false, cond, List, [], ◌∷◌, map, Some, refl, sym, ap, ap₂, ◌∙◌}
+use Rattle.std.specs.Prelude.{◌&&◌, ◌||◌, filter, find}
+use Rattle.std.specs.List.{list_any}
 use Rattle.std.specs.Str.{bytes_eq}
 use Rattle.std.proofs.lemmas.Bool.{false≢true}
 use Rattle.wf_model.specs.declared.registry.Entry.{Entry}
 use Rattle.wf_model.specs.declared.registry.Entry.TheVariants.{Dimspec, State, Rconfig, Package, Halo, Period}
 use Rattle.wf_model.specs.Letters.{Text}
-use Rattle.wf_model.specs.Entries.{dimspecs, is_entry, declares, find_entry, axis, axis_of}
+use Rattle.wf_model.specs.Entries.{dimspecs, is_entry, axis, axis_of}
 use Rattle.wf_model.specs.Judging.{is_known, all_known, is_in_order}
 use Rattle.wf_model.specs.Config.{is_dimspec}
 

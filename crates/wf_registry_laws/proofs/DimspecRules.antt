@@ -1,10 +1,9 @@
 -- A dimspec whose columns have no fault is sound.
-use Rattle.std.proofs.Common.{◌≡◌, ◌⊎◌, inl, inr, ⊎_elim, ℕ, Bool, true, false, List, [], ◌∷◌, Option, Some, None, refl, sym, ap, ◌∙◌}
+use Rattle.std.proofs.Common.{◌≡◌, ◌⊎◌, inl, inr, ⊎_elim, Bool, true, false, List, [], ◌∷◌, Some, None, refl, ap}
 use Rattle.std.specs.Prelude.{not, ◌||◌, if◌then◌else◌, codes}
 use Rattle.std.specs.Str.{bytes_eq}
 use Rattle.std.proofs.lemmas.Bool.{or_cases, false≢true}
 use Rattle.wf_model.specs.declared.registry.Entry.{Entry}
-use Rattle.wf_model.specs.declared.registry.RegistryKind.{RegistryKind}
 use Rattle.wf_model.specs.declared.registry.RegistryKind.TheVariants.{Unsupported, Columns, BadNumber}
 use Rattle.wf_model.specs.Reading.{fault_unless, first_fault}
 use Rattle.wf_model.specs.Letters.{Text, is_name, is_number_within, begins, behind}

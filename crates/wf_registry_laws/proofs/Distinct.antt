@@ -1,16 +1,16 @@
 -- Texts of which no two are equal.
-use Rattle.std.proofs.Common.{◌≡◌, ℕ, ◌+◌, ◌<◌, Bool, true, false, cond, List, [], ◌∷◌, ◌++◌, length, refl, sym, ap, ◌∙◌, subst, length-append, get_or, append_assoc, arith}
-use Rattle.std.specs.Prelude.{◌||◌, if◌then◌else◌, flat_map, filter, codes}
-use Rattle.std.specs.List.{list_any, IsDistinct, AllByRecursion}
+use Rattle.std.proofs.Common.{◌≡◌, ℕ, ◌<◌, Bool, true, false, cond, List, [], ◌∷◌, ◌++◌, length, refl, sym, ap, ◌∙◌, subst, length-append, get_or, append_assoc, arith}
+use Rattle.std.specs.Prelude.{if◌then◌else◌, flat_map, filter, codes}
+use Rattle.std.specs.List.{IsDistinct, AllByRecursion}
 use Rattle.std.specs.Str.{bytes_eq}
-use Rattle.std.proofs.lemmas.Bool.{or_parts, or_from, false≢true}
+use Rattle.std.proofs.lemmas.Bool.{or_parts, or_from}
 use Rattle.std.proofs.lemmas.List.{append_cancel_left}
 use Rattle.std.proofs.lemmas.List.Folds.{list_any-append}
 use Rattle.std.proofs.lemmas.List.Concat.{flat_map-cons}
 use Rattle.wf_model.specs.declared.registry.Entry.{Entry}
 use Rattle.wf_model.specs.declared.registry.Entry.TheVariants.{Dimspec, State, Rconfig, Package, Halo, Period}
 use Rattle.wf_model.specs.Letters.{Text, is_among, share}
-use Rattle.wf_model.specs.Entries.{suffixed, level_names, variable_of, variables_of, is_two, is_integer, staggered, entry_symbol, entry_levels, entry_variables, entry_datasets}
+use Rattle.wf_model.specs.Entries.{suffixed, variable_of, variables_of, is_two, is_integer, staggered, entry_symbol, entry_levels, entry_variables, entry_datasets}
 use Rattle.wf_registry_laws.specs.RegistryLaws.{AreDistinct}
 use Rattle.wf_registry_laws.proofs.Tests.{other_text, flipped}
 

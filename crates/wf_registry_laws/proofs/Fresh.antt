@@ -1,17 +1,15 @@
 -- A line without a fault has a sound entry, whose names are new.
-use Rattle.std.proofs.Common.{◌≡◌, ◌⊎◌, inl, inr, ⊎_elim, ℕ, Bool, true, false, List, [], ◌∷◌, ◌++◌, length, Option, Some, None, refl, sym, ap, ◌∙◌, subst}
-use Rattle.std.specs.Prelude.{not, ◌&&◌, ◌||◌, nat_lt, nat_le, if◌then◌else◌, flat_map, codes, IsTrue}
-use Rattle.std.specs.Str.{bytes_eq}
+use Rattle.std.proofs.Common.{◌≡◌, ℕ, Bool, true, false, List, [], ◌∷◌, ◌++◌, length, Option, Some, None, refl, ap}
+use Rattle.std.specs.Prelude.{not, ◌||◌, nat_lt, nat_le, if◌then◌else◌, flat_map, codes, IsTrue}
 use Rattle.std.proofs.lemmas.Bool.{false≢true}
 use Rattle.wf_model.specs.declared.registry.Entry.{Entry}
 use Rattle.wf_model.specs.declared.registry.Entry.TheVariants.{Dimspec, State, Rconfig, Package, Halo, Period}
-use Rattle.wf_model.specs.declared.registry.RegistryKind.{RegistryKind}
-use Rattle.wf_model.specs.declared.registry.RegistryKind.TheVariants.{Unsupported, Columns, Duplicate}
-use Rattle.wf_model.specs.Reading.{fault_if, fault_unless, first_fault}
-use Rattle.wf_model.specs.Letters.{Text, is_among, share, lower}
+use Rattle.wf_model.specs.declared.registry.RegistryKind.TheVariants.{Columns, Duplicate}
+use Rattle.wf_model.specs.Reading.{fault_if, first_fault}
+use Rattle.wf_model.specs.Letters.{Text, is_among, share}
 use Rattle.wf_model.specs.KeptLines.{Kept, columns}
 use Rattle.wf_model.specs.Groups.{points_head, width_head}
-use Rattle.wf_model.specs.Entries.{Kind, dimspecs, states, rconfigs, packages, halos, periods, left_out, no_kind, kind_of, least_columns, column, entry_of, entry_of_kind, entry_symbol, entry_levels, entry_variables, entry_datasets, level_names, variables_of, is_integer, staggered}
+use Rattle.wf_model.specs.Entries.{Kind, dimspecs, states, rconfigs, packages, halos, periods, left_out, no_kind, kind_of, least_columns, column, entry_of, entry_of_kind, entry_symbol, entry_levels, entry_variables, entry_datasets, level_names, variables_of, is_integer}
 use Rattle.wf_model.specs.Judging.{column_faults, line_fault, dimspec_faults, state_faults, integer_faults, level_fault, taken_names, taken_datasets, symbol_of, all_known}
 use Rattle.wf_model.specs.Registry.{names_known}
 use Rattle.wf_registry_laws.specs.EntryRules.{IsSoundEntry}

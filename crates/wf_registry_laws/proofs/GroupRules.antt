@@ -1,9 +1,9 @@
 -- Rconfigs, packages, halos and periods whose columns have no fault are sound.
-use Rattle.std.proofs.Common.{◌≡◌, ◌⊎◌, inl, inr, ℕ, Bool, true, false, List, [], ◌∷◌, ◌++◌, Option, Some, None, refl, sym, ap, ◌∙◌}
-use Rattle.std.specs.Prelude.{◌&&◌, if◌then◌else◌, flat_map, All, IsTrue, codes}
+use Rattle.std.proofs.Common.{◌≡◌, ◌⊎◌, inl, inr, Bool, true, false, List, [], ◌∷◌, Option, Some, None, refl, sym, ap, ◌∙◌}
+use Rattle.std.specs.Prelude.{if◌then◌else◌, flat_map, All, IsTrue, codes}
 use Rattle.std.specs.List.{list_all, AllByRecursion}
 use Rattle.std.specs.Option.{option_or}
-use Rattle.std.proofs.lemmas.Bool.{false≢true, and_parts}
+use Rattle.std.proofs.lemmas.Bool.{and_parts}
 use Rattle.std.proofs.lemmas.List.Concat.{flat_map-cons}
 use Rattle.std.proofs.lemmas.List.Elements.{All-from_recursion}
 use Rattle.wf_model.proofs.ReadingLemmas.{first_fault-append}
@@ -12,11 +12,10 @@ use Rattle.wf_model.specs.declared.registry.RegistryKind.{RegistryKind}
 use Rattle.wf_model.specs.declared.registry.RegistryKind.TheVariants.{Columns, BadNumber, Duplicate}
 use Rattle.wf_model.specs.Reading.{fault_if, fault_unless, first_fault}
 use Rattle.wf_model.specs.Letters.{Text, is_name, is_dash, lower, begins, behind}
-use Rattle.wf_model.specs.ValueForms.{has, is_whole_in}
-use Rattle.wf_model.specs.Io.{is_colon}
-use Rattle.wf_model.specs.Groups.{Faults, groups_of, head_of, names_in, group_faults, state_head, points_head, width_head}
+use Rattle.wf_model.specs.ValueForms.{is_whole_in}
+use Rattle.wf_model.specs.Groups.{groups_of, names_in, group_faults, state_head}
 use Rattle.wf_model.specs.Entries.{Kind, packages, column, declares, package_symbol, package_value, joined_groups}
-use Rattle.wf_model.specs.Judging.{rconfig_faults, is_package_condition, package_faults, exchange_faults, symbol_of}
+use Rattle.wf_model.specs.Judging.{rconfig_faults, is_package_condition, package_faults, exchange_faults}
 use Rattle.wf_registry_laws.specs.EntryRules.{IsSoundRconfig, IsSoundGroup, IsSoundPackage, IsSoundExchange}
 use Rattle.wf_registry_laws.proofs.Tests.{no_faults, or_none, unless_passes}
 use Rattle.wf_registry_laws.proofs.Names.{is_name_lower}

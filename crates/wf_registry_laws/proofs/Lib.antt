@@ -8,3 +8,7 @@ pub mod Distinct
 pub mod Registries
 pub mod Dims
 pub mod Configs
+pub mod Shapes
+pub mod Pairs
+pub mod Named
+pub mod Ranged

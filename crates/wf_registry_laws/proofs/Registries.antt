@@ -1,25 +1,22 @@
 -- A Registry that was read is sound.
-use Rattle.std.proofs.Common.{◌≡◌, ℕ, Bool, true, false, List, [], ◌∷◌, ◌++◌, Option, Some, None, Result, Ok, Err, refl, sym, ap, ◌∙◌, subst, append_assoc}
-use Rattle.std.specs.Prelude.{◌||◌, not, flat_map, find, filter_map, IsTrue, All, codes, if◌then◌else◌, cond}
+use Rattle.std.proofs.Common.{◌≡◌, Bool, true, false, List, [], ◌∷◌, ◌++◌, Option, Some, None, Ok, refl, sym, ap, ◌∙◌, subst, append_assoc}
+use Rattle.std.specs.Prelude.{◌||◌, not, flat_map, find, filter_map, IsTrue, codes, cond}
 use Rattle.std.specs.List.{list_any, AllByRecursion, cons_option}
 use Rattle.std.specs.Option.{option_or, option_map, option_to_list}
-use Rattle.std.specs.Str.{bytes_eq}
-use Rattle.std.proofs.lemmas.Bool.{false≢true, or_parts}
+use Rattle.std.proofs.lemmas.Bool.{false≢true}
 use Rattle.std.proofs.lemmas.List.{append-nil}
 use Rattle.std.proofs.lemmas.List.Concat.{flat_map-cons}
 use Rattle.std.proofs.lemmas.List.Elements.{All-from_recursion}
 use Rattle.std.proofs.lemmas.Grind.{flat_map-append}
-use Rattle.wf_model.specs.declared.registry.SourceFile.{SourceFile}
 use Rattle.wf_model.specs.declared.registry.Registry.{Registry}
 use Rattle.wf_model.specs.declared.registry.RegistryFault.{RegistryFault}
-use Rattle.wf_model.specs.declared.registry.RegistryKind.{RegistryKind}
 use Rattle.wf_model.specs.declared.registry.RegistryKind.TheVariants.{UnknownName}
 use Rattle.wf_model.specs.declared.registry.Entry.{Entry}
 use Rattle.wf_model.specs.Reading.{unless_fault}
 use Rattle.wf_model.specs.Letters.{Text, share}
-use Rattle.wf_model.specs.KeptLines.{Kept, Defines, registry_lines}
+use Rattle.wf_model.specs.KeptLines.{Kept, registry_lines}
 use Rattle.wf_model.specs.Entries.{entry_of, entries_of, entry_symbol, entry_levels, entry_variables, entry_datasets}
-use Rattle.wf_model.specs.Judging.{line_fault, taken_names, taken_datasets}
+use Rattle.wf_model.specs.Judging.{line_fault, taken_datasets}
 use Rattle.wf_model.specs.Registry.{fault_at, broken_line, names_known, has_unknown, unknown_name, met_of, stop_of, refusal, registry_of}
 use Rattle.wf_registry_laws.specs.EntryRules.{IsSoundEntry}
 use Rattle.wf_registry_laws.specs.RegistryLaws.{AreDistinct, IsSoundRegistry, RegistriesAreSound}

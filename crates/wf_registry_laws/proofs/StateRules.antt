@@ -1,18 +1,17 @@
 -- A state whose columns have no fault is sound.
-use Rattle.std.proofs.Common.{◌≡◌, ◌⊎◌, inl, inr, ⊎_elim, ℕ, ◌≤◌, Bool, true, false, List, [], ◌∷◌, length, Option, Some, None, Result, Ok, Err, refl, sym, ap, ◌∙◌, eqb, arith}
-use Rattle.std.specs.Prelude.{not, ◌&&◌, ◌||◌, nat_lt, nat_le, if◌then◌else◌, codes, IsTrue}
+use Rattle.std.proofs.Common.{◌≡◌, ◌⊎◌, inl, inr, ⊎_elim, ℕ, ◌≤◌, Bool, true, false, List, [], ◌∷◌, length, Option, None, Result, Ok, Err, refl, sym, ap, ◌∙◌, eqb}
+use Rattle.std.specs.Prelude.{not, ◌&&◌, ◌||◌, nat_lt, if◌then◌else◌, codes}
 use Rattle.std.specs.List.{list_all, list_any}
-use Rattle.std.specs.Str.{bytes_eq}
 use Rattle.std.specs.Char.{is_ascii_alphabetic}
-use Rattle.std.proofs.lemmas.Bool.{or_cases, and_from, false≢true, eqb-true, leb-true, ltb-false, ne_eqb, both_ways}
+use Rattle.std.proofs.lemmas.Bool.{or_cases, false≢true, eqb-true, leb-true, ltb-false, both_ways}
 use Rattle.wf_model.specs.declared.registry.Entry.{Entry}
 use Rattle.wf_model.specs.declared.registry.RegistryKind.{RegistryKind}
-use Rattle.wf_model.specs.declared.registry.RegistryKind.TheVariants.{Unsupported, Columns, BadNumber, Duplicate}
+use Rattle.wf_model.specs.declared.registry.RegistryKind.TheVariants.{Unsupported, Columns, Duplicate}
 use Rattle.wf_model.specs.Reading.{fault_unless, fault_if, first_fault}
-use Rattle.wf_model.specs.Letters.{Text, is_name, is_number_within, is_dash, is_among, lower}
+use Rattle.wf_model.specs.Letters.{Text, is_name, is_dash, is_among, lower}
 use Rattle.wf_model.specs.Io.{IoPart, io_of, parts_of}
-use Rattle.wf_model.specs.Entries.{column, is_integer, is_two, variable_of}
-use Rattle.wf_model.specs.Judging.{fault_of_result, is_known, all_known, is_in_order, dims_fault, is_letter_b, is_stagger, has_z, stagger_fault, is_short, symbol_of, integer_faults, state_faults, is_state_type, taken_names, level_fault}
+use Rattle.wf_model.specs.Entries.{column, is_integer, is_two}
+use Rattle.wf_model.specs.Judging.{fault_of_result, is_known, all_known, is_in_order, is_letter_b, is_stagger, has_z, symbol_of, integer_faults, state_faults, is_state_type, taken_names, level_fault}
 use Rattle.wf_registry_laws.specs.EntryRules.{IsSoundInteger, IsSoundState}
 use Rattle.wf_registry_laws.proofs.Tests.{no_faults, or_none, unless_passes, if_fails, same_text}
 
@@ -77,11 +76,11 @@ integer_is_sound all before cols known e =
     let h = no_faults (integer_faults all before cols) e in
     let dims = column cols 2 in
     let d = no_faults (
-      fault_unless ((eqb (length dims) 2) || (eqb (length dims) 3)) Unsupported
-      ∷ fault_unless (list_all is_ascii_alphabetic dims) (if list_any (λ c. eqb c 123) dims then Unsupported else Columns)
-      ∷ fault_if (list_any is_letter_b dims && not (is_known all 98)) Unsupported
-      ∷ fault_if (all_known all dims && not (is_in_order all dims)) Unsupported
-      ∷ []) h.0 in
+    fault_unless ((eqb (length dims) 2) || (eqb (length dims) 3)) Unsupported
+    ∷ fault_unless (list_all is_ascii_alphabetic dims) (if list_any (λ c. eqb c 123) dims then Unsupported else Columns)
+    ∷ fault_if (list_any is_letter_b dims && not (is_known all 98)) Unsupported
+    ∷ fault_if (all_known all dims && not (is_in_order all dims)) Unsupported
+    ∷ []) h.0 in
     let count = count_is (length dims) (unless_passes _ Unsupported d.0) in
     let s = stagger_by (is_dash (column cols 5)) (is_stagger (column cols 5)) (has_z (column cols 5)) (all_known all dims) (eqb (length dims) 2) h.1.1.1.1.0 in
     record {

@@ -1,8 +1,8 @@
 -- A config of a sound Registry is sound: its dimensions, fields, halos and periods keep their rules.
-use Rattle.std.specs.Prelude.{◌≡◌, List, [], ◌∷◌, ◌++◌, flat_map, IsTrue, All, Ok, codes}
+use Rattle.std.specs.Prelude.{◌≡◌, List, ◌∷◌, ◌++◌, flat_map, IsTrue, All, Ok, codes}
 use Rattle.wf_model.specs.declared.registry.Registry.{Registry}
 use Rattle.wf_model.specs.declared.registry.Entry.{Entry}
-use Rattle.wf_model.specs.declared.registry.Entry.TheVariants.{Dimspec, State, Rconfig, Package, Halo, Period}
+use Rattle.wf_model.specs.declared.registry.Entry.TheVariants.{Dimspec, State, Halo, Period}
 use Rattle.wf_model.specs.declared.namelist.Namelist.{Namelist}
 use Rattle.wf_model.specs.declared.config.Config.{Config}
 use Rattle.wf_model.specs.Letters.{Text, is_name}

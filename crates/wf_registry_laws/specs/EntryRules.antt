@@ -1,5 +1,5 @@
 -- What the entries of a Registry that was read keep, kind by kind.
-use Rattle.std.specs.Prelude.{◌≡◌, ◌⊎◌, ℕ, ◌≤◌, Bool, ◌||◌, List, length, IsTrue, codes, Ok, None, Option, All}
+use Rattle.std.specs.Prelude.{◌≡◌, ◌⊎◌, ℕ, ◌≤◌, List, length, IsTrue, Ok, None, Option, All}
 use Rattle.std.specs.Char.{is_ascii_alphabetic}
 use Rattle.wf_model.specs.declared.registry.Entry.{Entry}
 use Rattle.wf_model.specs.declared.registry.Entry.TheVariants.{Dimspec, State, Rconfig, Package, Halo, Period}

@@ -1,5 +1,5 @@
 -- The field levels of a sound config are ranged, each has its pair, and a table names them in their order.
-use Rattle.std.specs.Prelude.{◌≡◌, ℕ, ◌<◌, List, map, length, ℤ, pos, ◌≤ℤ◌, unsigned_abs, All, slice_index_or}
+use Rattle.std.specs.Prelude.{◌≡◌, ℕ, ◌<◌, Bool, List, map, length, ℤ, pos, ◌≤ℤ◌, unsigned_abs, All, slice_index_or}
 use Rattle.wf_model.specs.declared.config.Config.{Config}
 use Rattle.wf_model.specs.declared.plan.Field.{Field}
 use Rattle.wf_model.specs.declared.plan.Plan.{Plan}
@@ -34,9 +34,13 @@ LevelsHaveTheExtents = (config : Config) (hooks : List HookName) → map (λ (f 
 abbrev pub PairsAreSound : Type 0
 PairsAreSound = (config : Config) (hooks : List HookName) (plan : Plan) → plan.fields ≡ levels_of config hooks → (f : ℕ) → IsLevel plan f → IsSoundPair plan f
 
+-- a level's name, and whether it has a z letter
+abbrev pub name_and_z : Field → Text × Bool
+name_and_z f = (f.name, f.z)
+
 -- a table names the levels in their order, and says which have a z letter
 abbrev pub NamesAreTheLevels : Type 0
-NamesAreTheLevels = (config : Config) (hooks : List HookName) → let names = names_of config hooks in names.levels ≡ map (λ (f : Field). (f.name, f.z)) (levels_of config hooks)
+NamesAreTheLevels = (config : Config) (hooks : List HookName) → let names = names_of config hooks in names.levels ≡ map name_and_z (levels_of config hooks)
 
 -- no two levels have one name
 abbrev pub LevelNamesAreDistinct : Type 0

@@ -1,5 +1,5 @@
 -- A Registry that was read is sound: each entry keeps the rules of its kind, and no name is declared twice.
-use Rattle.std.specs.Prelude.{◌≡◌, List, [], ◌∷◌, ◌++◌, flat_map, IsTrue, All, Ok, codes}
+use Rattle.std.specs.Prelude.{◌≡◌, List, ◌∷◌, ◌++◌, flat_map, IsTrue, All, Ok, codes}
 use Rattle.std.specs.List.{IsDistinct}
 use Rattle.std.specs.Str.{bytes_eq}
 use Rattle.wf_model.specs.declared.registry.SourceFile.{SourceFile}
