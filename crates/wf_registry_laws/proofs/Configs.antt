@@ -14,11 +14,11 @@ use Rattle.wf_model.specs.Reading.{first_fault}
 use Rattle.wf_model.specs.Letters.{Text}
 use Rattle.wf_model.specs.Namelist.{Item}
 use Rattle.wf_model.specs.BuiltIns.{NameRule}
-use Rattle.wf_model.specs.Entries.{is_integer, entry_levels, entry_variables, entry_datasets}
+use Rattle.wf_model.specs.Entries.{dimspecs, states, halos, periods, is_integer, entry_levels, entry_variables, entry_datasets}
 use Rattle.wf_model.specs.Judging.{taken_datasets}
 use Rattle.wf_model.specs.Config.{Values, is_dimspec, is_halo, is_period, is_active, float_fault, wrong_rule, item_fault, default_fault, registry_rules, rules_of, known_items, max_dom, domain_count, filled, config_from, config_fault, config_of}
 use Rattle.wf_registry_laws.specs.EntryRules.{IsSoundEntry, IsSoundInteger}
-use Rattle.wf_registry_laws.specs.RegistryLaws.{IsSoundRegistry}
+use Rattle.wf_registry_laws.specs.RegistryLaws.{names_of_kind, IsSoundRegistry}
 use Rattle.wf_registry_laws.specs.ConfigLaws.{IsSoundDim, IsSoundField, IsSoundHalo, IsSoundPeriod, IsSoundConfig, ConfigsAreSound}
 use Rattle.wf_registry_laws.proofs.Tests.{or_none, if_fails}
 use Rattle.wf_registry_laws.proofs.Registries.{none_of_two, ok_none}
@@ -113,6 +113,10 @@ config_is_sound registry values s whole =
           (All-filter (is_active registry values) (IsSoundEntry es) es s.rules k d within) (filter_passes (is_active registry values) es k d within) (whole k d within);
       halos = kept_sound is_halo (IsSoundEntry es) IsSoundHalo (is_sound_halo es) es s.rules;
       periods = kept_sound is_period (IsSoundEntry es) IsSoundPeriod (is_sound_period es) es s.rules;
+      letters = distinct_kept (names_of_kind dimspecs) is_dimspec [] es (s.names dimspecs);
+      symbols = distinct_kept (names_of_kind states) (is_active registry values) [] es (s.names states);
+      halo_names = distinct_kept (names_of_kind halos) is_halo [] es (s.names halos);
+      period_names = distinct_kept (names_of_kind periods) is_period [] es (s.names periods);
       levels = distinct_kept entry_levels (is_active registry values) [] es s.levels;
       variables = distinct_kept entry_variables (is_active registry values) (codes "Times" ∷ []) es s.variables;
       datasets = distinct_kept entry_datasets is_dimspec taken_datasets es s.datasets;

@@ -10,8 +10,8 @@ use Rattle.std.proofs.lemmas.List.Concat.{flat_map-cons}
 use Rattle.wf_model.specs.declared.registry.Entry.{Entry}
 use Rattle.wf_model.specs.declared.registry.Entry.TheVariants.{Dimspec, State, Rconfig, Package, Halo, Period}
 use Rattle.wf_model.specs.Letters.{Text, is_among, share}
-use Rattle.wf_model.specs.Entries.{suffixed, variable_of, variables_of, is_two, is_integer, staggered, entry_symbol, entry_levels, entry_variables, entry_datasets}
-use Rattle.wf_registry_laws.specs.RegistryLaws.{AreDistinct}
+use Rattle.wf_model.specs.Entries.{Kind, same_kind, entry_name, suffixed, variable_of, variables_of, is_two, is_integer, staggered, entry_symbol, entry_levels, entry_variables, entry_datasets}
+use Rattle.wf_registry_laws.specs.RegistryLaws.{AreDistinct, names_of_kind}
 use Rattle.wf_registry_laws.proofs.Tests.{other_text, flipped}
 
 -- ---- two lists
@@ -124,13 +124,12 @@ integer_variables : (integer : Bool) (symbol levels dname : Text) → AreDistinc
 integer_variables true symbol levels dname = variables_distinct (is_two levels) (variable_of symbol dname)
 integer_variables false symbol levels dname = none_distinct
 
-pub own_symbols : (e : Entry) → AreDistinct (entry_symbol e)
-own_symbols (State kind symbol dims levels stagger io dname description units) = one_distinct symbol
-own_symbols (Dimspec letter how axis dataset) = none_distinct
-own_symbols (Rconfig kind symbol how entries default) = none_distinct
-own_symbols (Package name symbol value list) = none_distinct
-own_symbols (Halo name groups) = none_distinct
-own_symbols (Period name groups) = none_distinct
+kind_distinct : (same : Bool) (name : Text) → AreDistinct (if same then name ∷ [] else [])
+kind_distinct true name = one_distinct name
+kind_distinct false name = none_distinct
+
+pub own_name : (kind : Kind) (e : Entry) → AreDistinct (names_of_kind kind e)
+own_name kind e = kind_distinct (same_kind kind (entry_name e).0) (entry_name e).1
 
 pub own_levels : (e : Entry) → AreDistinct (entry_levels e)
 own_levels (State kind symbol dims levels stagger io dname description units) = levels_distinct (is_two levels) symbol

@@ -6,21 +6,22 @@ use Rattle.wf_model.specs.declared.registry.Entry.{Entry}
 use Rattle.wf_model.specs.declared.registry.Entry.TheVariants.{Dimspec, State, Rconfig, Package, Halo, Period}
 use Rattle.wf_model.specs.declared.registry.RegistryKind.TheVariants.{Columns, Duplicate}
 use Rattle.wf_model.specs.Reading.{fault_if, first_fault}
-use Rattle.wf_model.specs.Letters.{Text, is_among, share}
+use Rattle.wf_model.specs.Letters.{lower, Text, is_among, share}
 use Rattle.wf_model.specs.KeptLines.{Kept, columns}
 use Rattle.wf_model.specs.Groups.{points_head, width_head}
-use Rattle.wf_model.specs.Entries.{Kind, dimspecs, states, rconfigs, packages, halos, periods, left_out, no_kind, kind_of, least_columns, column, entry_of, entry_of_kind, entry_symbol, entry_levels, entry_variables, entry_datasets, level_names, variables_of, is_integer}
+use Rattle.wf_model.specs.Entries.{declares, entry_name, package_symbol, package_value, joined_groups, Kind, dimspecs, states, rconfigs, packages, halos, periods, left_out, no_kind, kind_of, least_columns, column, entry_of, entry_of_kind, entry_symbol, entry_levels, entry_variables, entry_datasets, level_names, variables_of, is_integer}
 use Rattle.wf_model.specs.Judging.{column_faults, line_fault, dimspec_faults, state_faults, integer_faults, level_fault, taken_names, taken_datasets, symbol_of, all_known}
 use Rattle.wf_model.specs.Registry.{names_known}
 use Rattle.wf_registry_laws.specs.EntryRules.{IsSoundEntry}
 use Rattle.wf_registry_laws.proofs.Tests.{no_faults, or_none, if_fails}
+use Rattle.wf_registry_laws.proofs.KindNames.{no_symbol, letter_is_new, rconfig_is_new, package_is_new, exchange_is_new}
 use Rattle.wf_registry_laws.proofs.DimspecRules.{dimspec_is_sound}
 use Rattle.wf_registry_laws.proofs.StateRules.{state_is_sound, integer_faults_none}
 use Rattle.wf_registry_laws.proofs.GroupRules.{rconfig_is_sound, package_is_sound, exchange_is_sound}
 
 -- what an entry declares is declared by none before it
 pub record IsFresh (before : List Entry) (e : Entry) : Type 0 where
-  pub symbols : share (entry_symbol e) (taken_names before) ≡ false
+  pub name : declares (entry_name e).0 (entry_name e).1 before ≡ false
   pub levels : share (entry_levels e) (taken_names before) ≡ false
   pub variables : share (entry_variables e) (codes "Times" ∷ flat_map entry_variables before) ≡ false
   pub datasets : share (entry_datasets e) (taken_datasets ++ flat_map entry_datasets before) ≡ false
@@ -29,10 +30,6 @@ pub record IsFresh (before : List Entry) (e : Entry) : Type 0 where
 pub record IsJudged (all before : List Entry) (e : Entry) : Type 0 where
   pub sound : IsTrue (names_known all e) → IsSoundEntry all e
   pub fresh : IsFresh before e
-
-or_false : (b : Bool) → b ≡ false → (b || false) ≡ false
-or_false false e = refl
-or_false true e = e
 
 -- ---- a state's names
 
@@ -58,28 +55,29 @@ state_is_judged all before cols e =
     record {
       sound = λ known. state_is_sound all before cols (known_where_integer (is_integer (column cols 0)) (all_known all (column cols 2)) known) e;
       fresh = record {
-        symbols = or_false (is_among (symbol_of cols) (taken_names before)) (symbol_is_new all before cols e);
+        name = no_symbol (symbol_of cols) before (symbol_is_new all before cols e);
         levels = names.0;
         variables = names.1;
         datasets = refl;
       };
     }
 
-dimspec_is_judged : (all before : List Entry) (cols : List Text) (letter axis : ℕ) → IsSoundEntry all (Dimspec letter (column cols 2) axis (column cols 4)) → first_fault (dimspec_faults before cols) ≡ None
+dimspec_is_judged : (all before : List Entry) (cols : List Text) (letter axis : ℕ) → IsSoundEntry all (Dimspec letter (column cols 2) axis (column cols 4)) → declares dimspecs (letter ∷ []) before ≡ false
+    → first_fault (dimspec_faults before cols) ≡ None
     → IsJudged all before (Dimspec letter (column cols 2) axis (column cols 4))
-dimspec_is_judged all before cols letter axis sound e = record {
+dimspec_is_judged all before cols letter axis sound name e = record {
   sound = λ known. sound;
   fresh = record {
-    symbols = refl;
+    name = name;
     levels = refl;
     variables = refl;
     datasets = if_fails _ Duplicate (no_faults (dimspec_faults before cols) e).1.1.1.1.1.1.0;
   };
 }
 
-no_names : (before : List Entry) (e : Entry) → entry_symbol e ≡ [] → entry_levels e ≡ [] → entry_variables e ≡ [] → entry_datasets e ≡ [] → IsFresh before e
+no_names : (before : List Entry) (e : Entry) → declares (entry_name e).0 (entry_name e).1 before ≡ false → entry_levels e ≡ [] → entry_variables e ≡ [] → entry_datasets e ≡ [] → IsFresh before e
 no_names before e a b c d = record {
-  symbols = ap (λ ns. share ns (taken_names before)) a;
+  name = a;
   levels = ap (λ ns. share ns (taken_names before)) b;
   variables = ap (λ ns. share ns (codes "Times" ∷ flat_map entry_variables before)) c;
   datasets = ap (λ ns. share ns (taken_datasets ++ flat_map entry_datasets before)) d;
@@ -93,12 +91,12 @@ EachJudged all before None = Unit {0}
 EachJudged all before (Some e) = IsJudged all before e
 
 columns_are_judged : (kind : Kind) (all before : List Entry) (cols : List Text) → first_fault (column_faults kind all before cols) ≡ None → EachJudged all before (entry_of_kind kind cols)
-columns_are_judged dimspecs all before cols e = dimspec_is_judged all before cols _ _ (dimspec_is_sound before cols e) e
+columns_are_judged dimspecs all before cols e = dimspec_is_judged all before cols _ _ (dimspec_is_sound before cols e) (letter_is_new before cols e) e
 columns_are_judged states all before cols e = state_is_judged all before cols e
-columns_are_judged rconfigs all before cols e = record { sound = λ known. rconfig_is_sound before cols e; fresh = no_names before (Rconfig _ _ _ _ _) refl refl refl refl }
-columns_are_judged packages all before cols e = record { sound = λ known. package_is_sound before cols e; fresh = no_names before (Package _ _ _ _) refl refl refl refl }
-columns_are_judged halos all before cols e = record { sound = λ known. exchange_is_sound halos points_head before cols e; fresh = no_names before (Halo _ _) refl refl refl refl }
-columns_are_judged periods all before cols e = record { sound = λ known. exchange_is_sound periods width_head before cols e; fresh = no_names before (Period _ _) refl refl refl refl }
+columns_are_judged rconfigs all before cols e = record { sound = λ known. rconfig_is_sound before cols e; fresh = no_names before (Rconfig (column cols 0) (symbol_of cols) (column cols 2) (column cols 3) (column cols 4)) (rconfig_is_new before cols e) refl refl refl }
+columns_are_judged packages all before cols e = record { sound = λ known. package_is_sound before cols e; fresh = no_names before (Package (lower (column cols 0)) _ _ _) (package_is_new before cols e) refl refl refl }
+columns_are_judged halos all before cols e = record { sound = λ known. exchange_is_sound halos points_head before cols e; fresh = no_names before (Halo (lower (column cols 0)) _) (exchange_is_new halos points_head before cols e) refl refl refl }
+columns_are_judged periods all before cols e = record { sound = λ known. exchange_is_sound periods width_head before cols e; fresh = no_names before (Period (lower (column cols 0)) _) (exchange_is_new periods width_head before cols e) refl refl refl }
 columns_are_judged left_out all before cols e = tt
 columns_are_judged no_kind all before cols e = tt
 

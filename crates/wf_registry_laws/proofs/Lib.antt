@@ -3,6 +3,7 @@ pub mod Names
 pub mod DimspecRules
 pub mod StateRules
 pub mod GroupRules
+pub mod KindNames
 pub mod Fresh
 pub mod Distinct
 pub mod Registries

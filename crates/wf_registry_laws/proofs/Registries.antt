@@ -1,9 +1,10 @@
 -- A Registry that was read is sound.
-use Rattle.std.proofs.Common.{◌≡◌, Bool, true, false, List, [], ◌∷◌, ◌++◌, Option, Some, None, Ok, refl, sym, ap, ◌∙◌, subst, append_assoc}
-use Rattle.std.specs.Prelude.{◌||◌, not, flat_map, find, filter_map, IsTrue, codes, cond}
+use Rattle.std.proofs.Common.{eqb, cond, ◌≡◌, Bool, true, false, List, [], ◌∷◌, ◌++◌, Option, Some, None, Ok, refl, sym, ap, ◌∙◌, subst, append_assoc}
+use Rattle.std.specs.Str.{bytes_eq}
+use Rattle.std.specs.Prelude.{◌&&◌, if◌then◌else◌, ◌||◌, not, flat_map, find, filter_map, IsTrue, codes, cond}
 use Rattle.std.specs.List.{list_any, AllByRecursion, cons_option}
 use Rattle.std.specs.Option.{option_or, option_map, option_to_list}
-use Rattle.std.proofs.lemmas.Bool.{false≢true}
+use Rattle.std.proofs.lemmas.Bool.{false≢true, or_from, eqb-true}
 use Rattle.std.proofs.lemmas.List.{append-nil}
 use Rattle.std.proofs.lemmas.List.Concat.{flat_map-cons}
 use Rattle.std.proofs.lemmas.List.Elements.{All-from_recursion}
@@ -13,15 +14,16 @@ use Rattle.wf_model.specs.declared.registry.RegistryFault.{RegistryFault}
 use Rattle.wf_model.specs.declared.registry.RegistryKind.TheVariants.{UnknownName}
 use Rattle.wf_model.specs.declared.registry.Entry.{Entry}
 use Rattle.wf_model.specs.Reading.{unless_fault}
-use Rattle.wf_model.specs.Letters.{Text, share}
+use Rattle.wf_model.specs.Letters.{is_among, Text, share}
 use Rattle.wf_model.specs.KeptLines.{Kept, registry_lines}
-use Rattle.wf_model.specs.Entries.{entry_of, entries_of, entry_symbol, entry_levels, entry_variables, entry_datasets}
+use Rattle.wf_model.specs.Entries.{Kind, same_kind, number_of_kind, entry_name, declares, entry_of, entries_of, entry_symbol, entry_levels, entry_variables, entry_datasets}
 use Rattle.wf_model.specs.Judging.{line_fault, taken_datasets}
 use Rattle.wf_model.specs.Registry.{fault_at, broken_line, names_known, has_unknown, unknown_name, met_of, stop_of, refusal, registry_of}
 use Rattle.wf_registry_laws.specs.EntryRules.{IsSoundEntry}
-use Rattle.wf_registry_laws.specs.RegistryLaws.{AreDistinct, IsSoundRegistry, RegistriesAreSound}
+use Rattle.wf_registry_laws.specs.RegistryLaws.{AreDistinct, names_of_kind, IsSoundRegistry, RegistriesAreSound}
+use Rattle.wf_registry_laws.proofs.KindNames.{among_is}
 use Rattle.wf_registry_laws.proofs.Fresh.{IsFresh, IsJudged, EachJudged, line_is_judged}
-use Rattle.wf_registry_laws.proofs.Distinct.{distinct_append, share_left, share_right, none_distinct, one_distinct, two_distinct, own_symbols, own_levels, own_variables, own_datasets}
+use Rattle.wf_registry_laws.proofs.Distinct.{distinct_append, share_left, share_right, none_distinct, one_distinct, two_distinct, own_name, own_levels, own_variables, own_datasets}
 
 -- ---- each entry beside those before it
 
@@ -96,6 +98,19 @@ distinct_after names ahead before (e ∷ es) own h so_far =
     let next : AreDistinct (ahead ++ flat_map names (before ++ e ∷ [])) = subst (λ ns. AreDistinct ns) joined (distinct_append (ahead ++ flat_map names before) (names e) so_far (own e) h.0) in
     subst (λ b. AreDistinct (ahead ++ flat_map names b)) (append_assoc before (e ∷ []) es) (distinct_after names ahead (before ++ e ∷ []) es own h.1 next)
 
+-- a name that no entry of its kind has is new among those of each kind
+name_is_new : (kind : Kind) (before : List Entry) (e : Entry) → declares (entry_name e).0 (entry_name e).1 before ≡ false → share (names_of_kind kind e) (flat_map (names_of_kind kind) before) ≡ false
+name_is_new kind before e new = by (same_kind kind (entry_name e).0) refl
+  where
+    same : same_kind kind (entry_name e).0 ≡ true → is_among (entry_name e).1 (flat_map (names_of_kind kind) before) ≡ false
+    same is =
+        among_is kind (entry_name e).1 before
+        ∙ ap (λ n. list_any (λ x. eqb n (number_of_kind (entry_name x).0) && bytes_eq (entry_name e).1 (entry_name x).1) before) (eqb-true (number_of_kind kind) (number_of_kind (entry_name e).0) is)
+        ∙ new
+    by : (b : Bool) → same_kind kind (entry_name e).0 ≡ b → share (if b then (entry_name e).1 ∷ [] else []) (flat_map (names_of_kind kind) before) ≡ false
+    by true is = or_from (is_among (entry_name e).1 (flat_map (names_of_kind kind) before)) false (same is) refl
+    by false is = refl
+
 -- ---- a Registry
 
 entries_are_sound : (es : List Entry) → EachAfter (IsJudged es) [] es → AllByRecursion (λ e. IsTrue (names_known es e)) es → IsSoundRegistry es
@@ -104,8 +119,8 @@ entries_are_sound es judged known =
     record {
       rules = All-from_recursion (IsSoundEntry es) es (rules_are_kept es [] es judged known);
       known = All-from_recursion (λ e. IsTrue (names_known es e)) es known;
-      symbols = distinct_after entry_symbol [] [] es own_symbols
-          (after_weaker IsFresh (λ b e. share (entry_symbol e) (flat_map entry_symbol b) ≡ false) (λ b e f. share_left (entry_symbol e) (flat_map entry_symbol b) (flat_map entry_levels b) f.symbols) [] es fresh) none_distinct;
+      names = λ kind. distinct_after (names_of_kind kind) [] [] es (own_name kind)
+          (after_weaker IsFresh (λ b e. share (names_of_kind kind e) (flat_map (names_of_kind kind) b) ≡ false) (λ b e f. name_is_new kind b e f.name) [] es fresh) none_distinct;
       levels = distinct_after entry_levels [] [] es own_levels
           (after_weaker IsFresh (λ b e. share (entry_levels e) (flat_map entry_levels b) ≡ false) (λ b e f. share_right (entry_levels e) (flat_map entry_symbol b) (flat_map entry_levels b) f.levels) [] es fresh) none_distinct;
       variables = distinct_after entry_variables (codes "Times" ∷ []) [] es own_variables

@@ -8,10 +8,11 @@ use Rattle.wf_model.specs.declared.config.Config.{Config}
 use Rattle.wf_model.specs.Letters.{Text, is_name}
 use Rattle.wf_model.specs.Groups.{points_head, width_head}
 use Rattle.wf_model.specs.Entries.{is_integer, entry_levels, entry_variables, entry_datasets}
+use Rattle.wf_model.specs.Entries as kinds
 use Rattle.wf_model.specs.Judging.{taken_datasets}
 use Rattle.wf_model.specs.Config.{config_of}
 use Rattle.wf_registry_laws.specs.EntryRules.{IsSoundDimspec, IsSoundInteger, IsSoundExchange}
-use Rattle.wf_registry_laws.specs.RegistryLaws.{AreDistinct, IsSoundRegistry}
+use Rattle.wf_registry_laws.specs.RegistryLaws.{AreDistinct, names_of_kind, IsSoundRegistry}
 
 -- a dimspec that keeps its rules
 abbrev pub IsSoundDim : Entry → Type 0
@@ -41,6 +42,10 @@ pub record IsSoundConfig (config : Config) : Type 0 where
   pub fields : All (IsSoundField config.dims) config.fields
   pub halos : All IsSoundHalo config.halos
   pub periods : All IsSoundPeriod config.periods
+  pub letters : AreDistinct (flat_map (names_of_kind kinds.dimspecs) config.dims)
+  pub symbols : AreDistinct (flat_map (names_of_kind kinds.states) config.fields)
+  pub halo_names : AreDistinct (flat_map (names_of_kind kinds.halos) config.halos)
+  pub period_names : AreDistinct (flat_map (names_of_kind kinds.periods) config.periods)
   pub levels : AreDistinct (flat_map entry_levels config.fields)
   -- and none is the name of a variable or dimension that every file has
   pub variables : AreDistinct (codes "Times" ∷ flat_map entry_variables config.fields)
