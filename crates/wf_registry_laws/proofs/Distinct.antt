@@ -10,7 +10,7 @@ use Rattle.std.proofs.lemmas.List.Concat.{flat_map-cons}
 use Rattle.wf_model.specs.declared.registry.Entry.{Entry}
 use Rattle.wf_model.specs.declared.registry.Entry.TheVariants.{Dimspec, State, Rconfig, Package, Halo, Period}
 use Rattle.wf_model.specs.Letters.{Text, is_among, share}
-use Rattle.wf_model.specs.Entries.{Kind, same_kind, entry_name, suffixed, variable_of, variables_of, is_two, is_integer, staggered, entry_symbol, entry_levels, entry_variables, entry_datasets}
+use Rattle.wf_model.specs.Entries.{Kind, same_kind, entry_name, suffixed, variable_of, variables_of, is_two, is_integer, staggered, entry_levels, entry_variables, entry_datasets}
 use Rattle.wf_registry_laws.specs.RegistryLaws.{AreDistinct, names_of_kind}
 use Rattle.wf_registry_laws.proofs.Tests.{other_text, flipped}
 

@@ -9,7 +9,7 @@ use Rattle.wf_model.specs.Reading.{fault_if, first_fault}
 use Rattle.wf_model.specs.Letters.{lower, Text, is_among, share}
 use Rattle.wf_model.specs.KeptLines.{Kept, columns}
 use Rattle.wf_model.specs.Groups.{points_head, width_head}
-use Rattle.wf_model.specs.Entries.{declares, entry_name, package_symbol, package_value, joined_groups, Kind, dimspecs, states, rconfigs, packages, halos, periods, left_out, no_kind, kind_of, least_columns, column, entry_of, entry_of_kind, entry_symbol, entry_levels, entry_variables, entry_datasets, level_names, variables_of, is_integer}
+use Rattle.wf_model.specs.Entries.{declares, entry_name, Kind, dimspecs, states, rconfigs, packages, halos, periods, left_out, no_kind, kind_of, least_columns, column, entry_of, entry_of_kind, entry_levels, entry_variables, entry_datasets, level_names, variables_of, is_integer}
 use Rattle.wf_model.specs.Judging.{column_faults, line_fault, dimspec_faults, state_faults, integer_faults, level_fault, taken_names, taken_datasets, symbol_of, all_known}
 use Rattle.wf_model.specs.Registry.{names_known}
 use Rattle.wf_registry_laws.specs.EntryRules.{IsSoundEntry}

@@ -1,5 +1,5 @@
 -- The name of an entry without a fault is new among those of its kind.
-use Rattle.std.proofs.Common.{◌≡◌, ℕ, Bool, true, false, List, [], ◌∷◌, ◌++◌, Option, Some, None, refl, sym, ap, ap₂, ◌∙◌}
+use Rattle.std.proofs.Common.{◌≡◌, Bool, true, false, List, [], ◌∷◌, ◌++◌, Option, None, refl, sym, ap, ap₂, ◌∙◌}
 use Rattle.std.specs.Prelude.{◌&&◌, ◌||◌, if◌then◌else◌, flat_map}
 use Rattle.std.specs.Char.{is_ascii_alphabetic}
 use Rattle.std.specs.Str.{bytes_eq}
@@ -77,8 +77,8 @@ pub package_is_new : (before : List Entry) (cols : List Text) → first_fault (p
 package_is_new before cols e =
     second_passes (fault_unless (is_name (column cols 0)) Columns) (declares packages (lower (column cols 0)) before) Duplicate
     (fault_unless (is_package_condition (column cols 1)) Columns
-      ∷ fault_unless (is_whole_in 32 (package_value (column cols 1))) BadNumber
-      ∷ (if is_dash (column cols 3) then [] else flat_map (group_faults state_head) (groups_of (column cols 3)))) e
+    ∷ fault_unless (is_whole_in 32 (package_value (column cols 1))) BadNumber
+    ∷ (if is_dash (column cols 3) then [] else flat_map (group_faults state_head) (groups_of (column cols 3)))) e
 
 pub exchange_is_new : (kind : Kind) (head : Text → Option RegistryKind) (before : List Entry) (cols : List Text) → first_fault (exchange_faults kind head before cols) ≡ None → declares kind (lower (column cols 0)) before ≡ false
 exchange_is_new kind head before cols e =

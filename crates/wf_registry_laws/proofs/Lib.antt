@@ -13,3 +13,5 @@ pub mod Shapes
 pub mod Pairs
 pub mod Named
 pub mod Ranged
+pub mod Extents
+pub mod Parts

@@ -23,7 +23,7 @@ use Rattle.wf_registry_laws.specs.EntryRules.{IsSoundEntry}
 use Rattle.wf_registry_laws.specs.RegistryLaws.{AreDistinct, names_of_kind, IsSoundRegistry, RegistriesAreSound}
 use Rattle.wf_registry_laws.proofs.KindNames.{among_is}
 use Rattle.wf_registry_laws.proofs.Fresh.{IsFresh, IsJudged, EachJudged, line_is_judged}
-use Rattle.wf_registry_laws.proofs.Distinct.{distinct_append, share_left, share_right, none_distinct, one_distinct, two_distinct, own_name, own_levels, own_variables, own_datasets}
+use Rattle.wf_registry_laws.proofs.Distinct.{distinct_append, share_right, none_distinct, one_distinct, two_distinct, own_name, own_levels, own_variables, own_datasets}
 
 -- ---- each entry beside those before it
 
@@ -107,6 +107,7 @@ name_is_new kind before e new = by (same_kind kind (entry_name e).0) refl
         among_is kind (entry_name e).1 before
         ∙ ap (λ n. list_any (λ x. eqb n (number_of_kind (entry_name x).0) && bytes_eq (entry_name e).1 (entry_name x).1) before) (eqb-true (number_of_kind kind) (number_of_kind (entry_name e).0) is)
         ∙ new
+
     by : (b : Bool) → same_kind kind (entry_name e).0 ≡ b → share (if b then (entry_name e).1 ∷ [] else []) (flat_map (names_of_kind kind) before) ≡ false
     by true is = or_from (is_among (entry_name e).1 (flat_map (names_of_kind kind) before)) false (same is) refl
     by false is = refl

@@ -1,5 +1,5 @@
 -- The field levels of a sound config are ranged, each has its pair, and a table names them in their order.
-use Rattle.std.specs.Prelude.{◌≡◌, ℕ, ◌<◌, Bool, List, map, length, ℤ, pos, ◌≤ℤ◌, unsigned_abs, All, slice_index_or}
+use Rattle.std.specs.Prelude.{◌≡◌, ℕ, ◌<◌, Bool, List, map, length, ℤ, pos, ◌≤ℤ◌, unsigned_abs, All, None, slice_index_or}
 use Rattle.wf_model.specs.declared.config.Config.{Config}
 use Rattle.wf_model.specs.declared.plan.Field.{Field}
 use Rattle.wf_model.specs.declared.plan.Plan.{Plan}
@@ -8,6 +8,8 @@ use Rattle.wf_model.specs.Letters.{Text}
 use Rattle.wf_model.specs.Plans.{no_field}
 use Rattle.wf_model.specs.Ranges.{IsRangedField, most_levels}
 use Rattle.wf_model.specs.Sound.{IsLevel, IsSoundPair}
+use Rattle.wf_model.specs.Reading.{first_fault}
+use Rattle.wf_model.specs.PlanTests.{extent_fault}
 use Rattle.wf_model.specs.PlanFields.{fields_from, z_extents}
 use Rattle.wf_model.specs.NamesOf.{names_of}
 use Rattle.wf_registry_laws.specs.RegistryLaws.{AreDistinct}
@@ -29,6 +31,14 @@ LevelsAreRanged = (config : Config) (hooks : List HookName) → IsSoundConfig co
 -- each level has its extent, without the sign: so there are as many
 abbrev pub LevelsHaveTheExtents : Type 0
 LevelsHaveTheExtents = (config : Config) (hooks : List HookName) → map (λ (f : Field). f.nz) (levels_of config hooks) ≡ map unsigned_abs (z_extents config)
+
+-- where they are in their ranges, they are the numbers of the levels
+abbrev pub ExtentsAreTheLevels : Type 0
+ExtentsAreTheLevels = (config : Config) (hooks : List HookName) → All IsRangedExtent (z_extents config) → map (λ (f : Field). pos f.nz) (levels_of config hooks) ≡ z_extents config
+
+-- and those that a plan's test passes are
+abbrev pub PassedExtentsAreRanged : Type 0
+PassedExtentsAreRanged = (zs : List ℤ) → first_fault (map extent_fault zs) ≡ None → All IsRangedExtent zs
 
 -- in a plan of these levels each has its pair
 abbrev pub PairsAreSound : Type 0

@@ -2,3 +2,4 @@ pub mod EntryRules
 pub mod RegistryLaws
 pub mod ConfigLaws
 pub mod FieldLaws
+pub mod PartLaws

@@ -3,7 +3,8 @@
 
 ghost use Rattle.wf_registry_laws.specs.RegistryLaws.{RegistriesAreSound};
 ghost use Rattle.wf_registry_laws.specs.ConfigLaws.{ConfigsAreSound};
-ghost use Rattle.wf_registry_laws.specs.FieldLaws.{LevelsAreRanged, LevelsHaveTheExtents, PairsAreSound, NamesAreTheLevels, LevelNamesAreDistinct, NamedFieldsArePairs};
+ghost use Rattle.wf_registry_laws.specs.FieldLaws.{LevelsAreRanged, LevelsHaveTheExtents, ExtentsAreTheLevels, PassedExtentsAreRanged, PairsAreSound, NamesAreTheLevels, LevelNamesAreDistinct, NamedFieldsArePairs};
+ghost use Rattle.wf_registry_laws.specs.PartLaws.{NamedPartsAreSound};
 
 /// The entries of a Registry that was read keep the rules of their kinds, and no name is declared twice.
 pub fn registries_are_sound()
@@ -25,6 +26,16 @@ pub fn levels_have_the_extents()
     ensures { LevelsHaveTheExtents }
 {}
 
+/// Where these are 1 to 128, they are the extents of the field levels as numbers.
+pub fn extents_are_the_levels()
+    ensures { ExtentsAreTheLevels }
+{}
+
+/// The extents that a plan's test passes are 1 to 128.
+pub fn passed_extents_are_ranged()
+    ensures { PassedExtentsAreRanged }
+{}
+
 /// The levels of a field are one another's pair, with the same extents, staggering and restart.
 pub fn pairs_are_sound()
     ensures { PairsAreSound }
@@ -43,4 +54,9 @@ pub fn level_names_are_distinct()
 /// The two numbers that a table has for a field are levels that are one another's pair.
 pub fn named_fields_are_pairs()
     ensures { NamedFieldsArePairs }
+{}
+
+/// The parts of halos and periods that a table may name have radii and widths from 1 to 6, and levels that are there.
+pub fn named_parts_are_sound()
+    ensures { NamedPartsAreSound }
 {}
