@@ -11,7 +11,7 @@ use Rattle.wf_model.specs.declared.plan_fault.Which.TheVariants as which
 use Rattle.wf_model.specs.Reading.{first_fault}
 use Rattle.wf_model.specs.PlanFields.{z_extents}
 use Rattle.wf_model.specs.PlanTests.{extent_fault}
-use Rattle.wf_registry_laws.specs.FieldLaws.{IsRangedExtent, levels_of, ExtentsAreTheLevels, PassedExtentsAreRanged}
+use Rattle.wf_registry_laws.specs.FieldLaws.{IsRangedExtent, field_levels, ExtentsAreTheLevels, PassedExtentsAreRanged}
 use Rattle.wf_registry_laws.proofs.Tests.{or_none, if_fails}
 use Rattle.wf_registry_laws.proofs.Named.{levels_have_the_extents}
 
@@ -46,4 +46,4 @@ numbers (f ∷ fs) = ap (λ zs. pos f.nz ∷ zs) (numbers fs)
 
 pub extents_are_the_levels : ExtentsAreTheLevels
 extents_are_the_levels config hooks h =
-    numbers (levels_of config hooks) ∙ ap (map pos) (levels_have_the_extents config hooks) ∙ same_numbers (z_extents config) (recursion_from_All IsRangedExtent (z_extents config) h)
+    numbers (field_levels config hooks) ∙ ap (map pos) (levels_have_the_extents config hooks) ∙ same_numbers (z_extents config) (recursion_from_All IsRangedExtent (z_extents config) h)

@@ -15,3 +15,4 @@ pub mod Named
 pub mod Ranged
 pub mod Extents
 pub mod Parts
+pub mod FileNames

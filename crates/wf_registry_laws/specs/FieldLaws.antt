@@ -16,8 +16,8 @@ use Rattle.wf_registry_laws.specs.RegistryLaws.{AreDistinct}
 use Rattle.wf_registry_laws.specs.ConfigLaws.{IsSoundConfig}
 
 -- the field levels of a config
-abbrev pub levels_of : Config → List HookName → List Field
-levels_of config hooks = fields_from config hooks 0 config.fields
+abbrev pub field_levels : Config → List HookName → List Field
+field_levels config hooks = fields_from config hooks 0 config.fields
 
 -- an extent in z, with its sign
 pub record IsRangedExtent (z : ℤ) : Type 0 where
@@ -26,15 +26,15 @@ pub record IsRangedExtent (z : ℤ) : Type 0 where
 
 -- where each extent in z is in its range, each level is in all of its own
 abbrev pub LevelsAreRanged : Type 0
-LevelsAreRanged = (config : Config) (hooks : List HookName) → IsSoundConfig config → All IsRangedExtent (z_extents config) → All IsRangedField (levels_of config hooks)
+LevelsAreRanged = (config : Config) (hooks : List HookName) → IsSoundConfig config → All IsRangedExtent (z_extents config) → All IsRangedField (field_levels config hooks)
 
 -- each level has its extent, without the sign: so there are as many
 abbrev pub LevelsHaveTheExtents : Type 0
-LevelsHaveTheExtents = (config : Config) (hooks : List HookName) → map (λ (f : Field). f.nz) (levels_of config hooks) ≡ map unsigned_abs (z_extents config)
+LevelsHaveTheExtents = (config : Config) (hooks : List HookName) → map (λ (f : Field). f.nz) (field_levels config hooks) ≡ map unsigned_abs (z_extents config)
 
 -- where they are in their ranges, they are the numbers of the levels
 abbrev pub ExtentsAreTheLevels : Type 0
-ExtentsAreTheLevels = (config : Config) (hooks : List HookName) → All IsRangedExtent (z_extents config) → map (λ (f : Field). pos f.nz) (levels_of config hooks) ≡ z_extents config
+ExtentsAreTheLevels = (config : Config) (hooks : List HookName) → All IsRangedExtent (z_extents config) → map (λ (f : Field). pos f.nz) (field_levels config hooks) ≡ z_extents config
 
 -- and those that a plan's test passes are
 abbrev pub PassedExtentsAreRanged : Type 0
@@ -42,7 +42,7 @@ PassedExtentsAreRanged = (zs : List ℤ) → first_fault (map extent_fault zs) �
 
 -- in a plan of these levels each has its pair
 abbrev pub PairsAreSound : Type 0
-PairsAreSound = (config : Config) (hooks : List HookName) (plan : Plan) → plan.fields ≡ levels_of config hooks → (f : ℕ) → IsLevel plan f → IsSoundPair plan f
+PairsAreSound = (config : Config) (hooks : List HookName) (plan : Plan) → plan.fields ≡ field_levels config hooks → (f : ℕ) → IsLevel plan f → IsSoundPair plan f
 
 -- a level's name, and whether it has a z letter
 abbrev pub name_and_z : Field → Text × Bool
@@ -50,11 +50,11 @@ name_and_z f = (f.name, f.z)
 
 -- a table names the levels in their order, and says which have a z letter
 abbrev pub NamesAreTheLevels : Type 0
-NamesAreTheLevels = (config : Config) (hooks : List HookName) → let names = names_of config hooks in names.levels ≡ map name_and_z (levels_of config hooks)
+NamesAreTheLevels = (config : Config) (hooks : List HookName) → let names = names_of config hooks in names.levels ≡ map name_and_z (field_levels config hooks)
 
 -- no two levels have one name
 abbrev pub LevelNamesAreDistinct : Type 0
-LevelNamesAreDistinct = (config : Config) (hooks : List HookName) → IsSoundConfig config → AreDistinct (map (λ (f : Field). f.name) (levels_of config hooks))
+LevelNamesAreDistinct = (config : Config) (hooks : List HookName) → IsSoundConfig config → AreDistinct (map (λ (f : Field). f.name) (field_levels config hooks))
 
 -- the level of a number
 abbrev pub level : List Field → ℕ → Field
@@ -69,4 +69,4 @@ pub record IsNamedPair (fs : List Field) (n : Text × ℕ × ℕ) : Type 0 where
 
 -- what a table may swap are pairs of levels
 abbrev pub NamedFieldsArePairs : Type 0
-NamedFieldsArePairs = (config : Config) (hooks : List HookName) → let names = names_of config hooks in All (IsNamedPair (levels_of config hooks)) names.fields
+NamedFieldsArePairs = (config : Config) (hooks : List HookName) → let names = names_of config hooks in All (IsNamedPair (field_levels config hooks)) names.fields

@@ -3,3 +3,4 @@ pub mod RegistryLaws
 pub mod ConfigLaws
 pub mod FieldLaws
 pub mod PartLaws
+pub mod FileLaws

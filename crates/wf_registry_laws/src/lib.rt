@@ -5,6 +5,7 @@ ghost use Rattle.wf_registry_laws.specs.RegistryLaws.{RegistriesAreSound};
 ghost use Rattle.wf_registry_laws.specs.ConfigLaws.{ConfigsAreSound};
 ghost use Rattle.wf_registry_laws.specs.FieldLaws.{LevelsAreRanged, LevelsHaveTheExtents, ExtentsAreTheLevels, PassedExtentsAreRanged, PairsAreSound, NamesAreTheLevels, LevelNamesAreDistinct, NamedFieldsArePairs};
 ghost use Rattle.wf_registry_laws.specs.PartLaws.{NamedPartsAreSound};
+ghost use Rattle.wf_registry_laws.specs.FileLaws.{FileVariablesAreDistinct};
 
 /// The entries of a Registry that was read keep the rules of their kinds, and no name is declared twice.
 pub fn registries_are_sound()
@@ -59,4 +60,9 @@ pub fn named_fields_are_pairs()
 /// The parts of halos and periods that a table may name have radii and widths from 1 to 6, and levels that are there.
 pub fn named_parts_are_sound()
     ensures { NamedPartsAreSound }
+{}
+
+/// In the files of each stream no two variables have one name.
+pub fn file_variables_are_distinct()
+    ensures { FileVariablesAreDistinct }
 {}
