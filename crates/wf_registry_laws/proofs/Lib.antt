@@ -16,3 +16,4 @@ pub mod Ranged
 pub mod Extents
 pub mod Parts
 pub mod FileNames
+pub mod Hooks

@@ -4,3 +4,4 @@ pub mod ConfigLaws
 pub mod FieldLaws
 pub mod PartLaws
 pub mod FileLaws
+pub mod HookLaws

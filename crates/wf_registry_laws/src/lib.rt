@@ -6,6 +6,7 @@ ghost use Rattle.wf_registry_laws.specs.ConfigLaws.{ConfigsAreSound};
 ghost use Rattle.wf_registry_laws.specs.FieldLaws.{LevelsAreRanged, LevelsHaveTheExtents, ExtentsAreTheLevels, PassedExtentsAreRanged, PairsAreSound, NamesAreTheLevels, LevelNamesAreDistinct, NamedFieldsArePairs};
 ghost use Rattle.wf_registry_laws.specs.PartLaws.{NamedPartsAreSound};
 ghost use Rattle.wf_registry_laws.specs.FileLaws.{FileVariablesAreDistinct};
+ghost use Rattle.wf_registry_laws.specs.HookLaws.{LevelsUseHooks};
 
 /// The entries of a Registry that was read keep the rules of their kinds, and no name is declared twice.
 pub fn registries_are_sound()
@@ -65,4 +66,9 @@ pub fn named_parts_are_sound()
 /// In the files of each stream no two variables have one name.
 pub fn file_variables_are_distinct()
     ensures { FileVariablesAreDistinct }
+{}
+
+/// The functions of the field levels are stored functions of their kinds.
+pub fn levels_use_hooks()
+    ensures { LevelsUseHooks }
 {}
