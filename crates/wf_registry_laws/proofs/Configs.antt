@@ -18,8 +18,8 @@ use Rattle.wf_model.specs.Entries.{dimspecs, states, halos, periods, is_integer,
 use Rattle.wf_model.specs.Judging.{taken_datasets}
 use Rattle.wf_model.specs.Config.{Values, is_dimspec, is_halo, is_period, is_active, float_fault, wrong_rule, item_fault, default_fault, registry_rules, rules_of, known_items, max_dom, domain_count, filled, config_from, config_fault, config_of}
 use Rattle.wf_registry_laws.specs.EntryRules.{IsSoundEntry, IsSoundInteger}
-use Rattle.wf_registry_laws.specs.RegistryLaws.{names_of_kind, IsSoundRegistry}
-use Rattle.wf_registry_laws.specs.ConfigLaws.{IsSoundDim, IsSoundField, IsSoundHalo, IsSoundPeriod, IsSoundConfig, ConfigsAreSound}
+use Rattle.wf_registry_laws.specs.RegistryLaws.{names_of_kind, taken_by, IsSoundRegistry}
+use Rattle.wf_registry_laws.specs.ConfigLaws.{IsSoundDimension, IsSoundField, IsSoundHalo, IsSoundPeriod, IsSoundConfig, ConfigsAreSound}
 use Rattle.wf_registry_laws.proofs.Tests.{or_none, if_fails}
 use Rattle.wf_registry_laws.proofs.Registries.{none_of_two, ok_none}
 use Rattle.wf_registry_laws.proofs.Distinct.{distinct_kept}
@@ -27,7 +27,7 @@ use Rattle.wf_registry_laws.proofs.Dims.{all_known_is, in_order_is}
 
 -- ---- each kind
 
-is_dim : (all : List Entry) (e : Entry) → IsSoundEntry all e → is_dimspec e ≡ true → IsSoundDim e
+is_dim : (all : List Entry) (e : Entry) → IsSoundEntry all e → is_dimspec e ≡ true → IsSoundDimension e
 is_dim all (Dimspec letter how axis dataset) s h = s
 is_dim all (State kind symbol dims levels stagger io dname description units) s h = absurd (false≢true h)
 is_dim all (Rconfig kind symbol how entries default) s h = absurd (false≢true h)
@@ -108,7 +108,7 @@ config_is_sound : (registry : Registry) (values : Values) → IsSoundRegistry re
 config_is_sound registry values s whole =
     let es = registry.entries in
     record {
-      dims = kept_sound is_dimspec (IsSoundEntry es) IsSoundDim (is_dim es) es s.rules;
+      dims = kept_sound is_dimspec (IsSoundEntry es) IsSoundDimension (is_dim es) es s.rules;
       fields = λ k d within. is_sound_field registry values (get_or (filter (is_active registry values) es) k d)
           (All-filter (is_active registry values) (IsSoundEntry es) es s.rules k d within) (filter_passes (is_active registry values) es k d within) (whole k d within);
       halos = kept_sound is_halo (IsSoundEntry es) IsSoundHalo (is_sound_halo es) es s.rules;
@@ -117,6 +117,7 @@ config_is_sound registry values s whole =
       symbols = distinct_kept (names_of_kind states) (is_active registry values) [] es (s.names states);
       halo_names = distinct_kept (names_of_kind halos) is_halo [] es (s.names halos);
       period_names = distinct_kept (names_of_kind periods) is_period [] es (s.names periods);
+      taken = distinct_kept taken_by (is_active registry values) [] es s.taken;
       levels = distinct_kept entry_levels (is_active registry values) [] es s.levels;
       variables = distinct_kept entry_variables (is_active registry values) (codes "Times" ∷ []) es s.variables;
       datasets = distinct_kept entry_datasets is_dimspec taken_datasets es s.datasets;

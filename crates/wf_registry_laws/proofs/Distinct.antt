@@ -11,7 +11,7 @@ use Rattle.wf_model.specs.declared.registry.Entry.{Entry}
 use Rattle.wf_model.specs.declared.registry.Entry.TheVariants.{Dimspec, State, Rconfig, Package, Halo, Period}
 use Rattle.wf_model.specs.Letters.{Text, is_among, share}
 use Rattle.wf_model.specs.Entries.{Kind, same_kind, entry_name, suffixed, variable_of, variables_of, is_two, is_integer, staggered, entry_levels, entry_variables, entry_datasets}
-use Rattle.wf_registry_laws.specs.RegistryLaws.{AreDistinct, names_of_kind}
+use Rattle.wf_registry_laws.specs.RegistryLaws.{AreDistinct, names_of_kind, taken_by}
 use Rattle.wf_registry_laws.proofs.Tests.{other_text, flipped}
 
 -- ---- two lists
@@ -119,6 +119,14 @@ levels_distinct false symbol = one_distinct symbol
 variables_distinct : (two : Bool) (name : Text) → AreDistinct (name ∷ (if two then suffixed name else []))
 variables_distinct true name = three_distinct name (name ++ codes "_1") (name ++ codes "_2") (longer name (codes "_1") (omega arith)) (longer name (codes "_2") (omega arith)) (suffixes_differ name)
 variables_distinct false name = one_distinct name
+
+pub own_taken : (e : Entry) → AreDistinct (taken_by e)
+own_taken (State kind symbol dims levels stagger io dname description units) = variables_distinct (is_two levels) symbol
+own_taken (Dimspec letter how axis dataset) = none_distinct
+own_taken (Rconfig kind symbol how entries default) = none_distinct
+own_taken (Package name symbol value list) = none_distinct
+own_taken (Halo name groups) = none_distinct
+own_taken (Period name groups) = none_distinct
 
 integer_variables : (integer : Bool) (symbol levels dname : Text) → AreDistinct (if integer then variables_of symbol levels dname else [])
 integer_variables true symbol levels dname = variables_distinct (is_two levels) (variable_of symbol dname)

@@ -1,5 +1,6 @@
 -- Extents in z that are in their range.
-use Rattle.std.proofs.Common.{◌≡◌, false, List, [], ◌∷◌, map, None, refl, ap, ap₂, ◌∙◌, arith}
+use Rattle.std.proofs.Common.{◌≡◌, get_or, sym, false, List, [], ◌∷◌, map, None, refl, ap, ap₂, ◌∙◌, arith}
+use Rattle.std.proofs.Math.ListN.{get_or-map}
 use Rattle.std.specs.Prelude.{◌||◌, ℤ, pos, ◌≤ℤ◌, int_lt, unsigned_abs}
 use Rattle.std.specs.List.{AllByRecursion}
 use Rattle.std.proofs.lemmas.Bool.{or_parts}
@@ -9,9 +10,10 @@ use Rattle.wf_model.specs.declared.plan.Field.{Field}
 use Rattle.wf_model.specs.declared.plan_fault.PlanFault.TheVariants.{Limit}
 use Rattle.wf_model.specs.declared.plan_fault.Which.TheVariants as which
 use Rattle.wf_model.specs.Reading.{first_fault}
+use Rattle.wf_model.specs.Plans.{no_field, field_of}
 use Rattle.wf_model.specs.PlanFields.{z_extents}
 use Rattle.wf_model.specs.PlanTests.{extent_fault}
-use Rattle.wf_registry_laws.specs.FieldLaws.{IsRangedExtent, field_levels, ExtentsAreTheLevels, PassedExtentsAreRanged}
+use Rattle.wf_registry_laws.specs.FieldLaws.{IsRangedExtent, field_levels, ExtentsAreTheLevels, ExtentsAreNumbered, PassedExtentsAreRanged}
 use Rattle.wf_registry_laws.proofs.Tests.{or_none, if_fails}
 use Rattle.wf_registry_laws.proofs.Named.{levels_have_the_extents}
 
@@ -47,3 +49,10 @@ numbers (f ∷ fs) = ap (λ zs. pos f.nz ∷ zs) (numbers fs)
 pub extents_are_the_levels : ExtentsAreTheLevels
 extents_are_the_levels config hooks h =
     numbers (field_levels config hooks) ∙ ap (map pos) (levels_have_the_extents config hooks) ∙ same_numbers (z_extents config) (recursion_from_All IsRangedExtent (z_extents config) h)
+
+pub extents_are_numbered : ExtentsAreNumbered
+unfolding field_of no_field
+extents_are_numbered config hooks plan same h f =
+    ap (λ zs. get_or zs f (pos 0)) (sym (extents_are_the_levels config hooks h))
+    ∙ get_or-map (λ (x : Field). pos x.nz) (field_levels config hooks) f no_field
+    ∙ ap (λ fs. pos (get_or fs f no_field).nz) (sym same)

@@ -6,6 +6,7 @@ pub mod GroupRules
 pub mod KindNames
 pub mod Fresh
 pub mod Distinct
+pub mod Taken
 pub mod Registries
 pub mod Dims
 pub mod Configs

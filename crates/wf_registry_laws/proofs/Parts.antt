@@ -19,7 +19,7 @@ use Rattle.wf_model.specs.Groups.{groups_of, head_of, names_in, radius_of, point
 use Rattle.wf_model.specs.NamesOf.{levels_in, level_number, group_parts, parts_in, halo_part, period_part, halo_of, period_of, names_of}
 use Rattle.wf_registry_laws.specs.EntryRules.{IsSoundGroup}
 use Rattle.wf_registry_laws.specs.ConfigLaws.{IsSoundHalo, IsSoundPeriod}
-use Rattle.wf_registry_laws.specs.PartLaws.{IsSoundHaloPart, IsSoundPeriodPart, NamedPartsAreSound}
+use Rattle.wf_registry_laws.specs.PartLaws.{IsNamedHaloPart, IsNamedPeriodPart, NamedPartsAreSound}
 use Rattle.wf_registry_laws.proofs.Tests.{unless_passes}
 use Rattle.wf_registry_laws.proofs.Distinct.{each-append}
 
@@ -58,7 +58,7 @@ groups_sound P head make levels (g ∷ gs) each sound =
 
 -- ---- halos
 
-halo_part_sound : (count : ℕ) (points : Text) → points_head points ≡ None → (f : ℕ) → f < count → IsSoundHaloPart count (halo_part points f)
+halo_part_sound : (count : ℕ) (points : Text) → points_head points ≡ None → (f : ℕ) → f < count → IsNamedHaloPart count (halo_part points f)
 halo_part_sound count points e f below =
     let h = and_parts (is_digits points) (nat_lt 0 (radius_of (digits_value points))) (unless_passes _ BadPoints e) in
     record {
@@ -68,13 +68,13 @@ halo_part_sound count points e f below =
     }
 
 abbrev HaloIsSound : ℕ → Text × List HaloPart → Type 0
-HaloIsSound count h = All (IsSoundHaloPart count) h.1
+HaloIsSound count h = All (IsNamedHaloPart count) h.1
 
 halos_sound : (levels : List (Text × Bool)) (es : List Entry) → AllByRecursion IsSoundHalo es → AllByRecursion (HaloIsSound (length levels)) (filter_map (halo_of levels) es)
 halos_sound levels [] sound = tt
 halos_sound levels (Halo name groups ∷ es) sound = (
-  All-from_recursion (IsSoundHaloPart (length levels)) (parts_in halo_part levels groups)
-      (groups_sound (IsSoundHaloPart (length levels)) points_head halo_part levels (groups_of groups) (halo_part_sound (length levels)) (recursion_from_All (IsSoundGroup points_head) (groups_of groups) sound.0.parts)),
+  All-from_recursion (IsNamedHaloPart (length levels)) (parts_in halo_part levels groups)
+      (groups_sound (IsNamedHaloPart (length levels)) points_head halo_part levels (groups_of groups) (halo_part_sound (length levels)) (recursion_from_All (IsSoundGroup points_head) (groups_of groups) sound.0.parts)),
   halos_sound levels es sound.1,
 )
 halos_sound levels (Dimspec letter how axis dataset ∷ es) sound = absurd sound.0
@@ -85,20 +85,20 @@ halos_sound levels (Period name groups ∷ es) sound = absurd sound.0
 
 -- ---- periods
 
-period_part_sound : (count : ℕ) (width : Text) → width_head width ≡ None → (f : ℕ) → f < count → IsSoundPeriodPart count (period_part width f)
+period_part_sound : (count : ℕ) (width : Text) → width_head width ≡ None → (f : ℕ) → f < count → IsNamedPeriodPart count (period_part width f)
 period_part_sound count width e f below =
     let h = and_parts (is_digits width && nat_le 1 (digits_value width)) (nat_le (digits_value width) 6) (unless_passes _ BadPoints e) in
     let low = and_parts (is_digits width) (nat_le 1 (digits_value width)) h.0 in
     record { level = below; width = (leb-true 1 (digits_value width) low.1, leb-true (digits_value width) 6 h.1) }
 
 abbrev PeriodIsSound : ℕ → Text × List PeriodPart → Type 0
-PeriodIsSound count p = All (IsSoundPeriodPart count) p.1
+PeriodIsSound count p = All (IsNamedPeriodPart count) p.1
 
 periods_sound : (levels : List (Text × Bool)) (es : List Entry) → AllByRecursion IsSoundPeriod es → AllByRecursion (PeriodIsSound (length levels)) (filter_map (period_of levels) es)
 periods_sound levels [] sound = tt
 periods_sound levels (Period name groups ∷ es) sound = (
-  All-from_recursion (IsSoundPeriodPart (length levels)) (parts_in period_part levels groups)
-      (groups_sound (IsSoundPeriodPart (length levels)) width_head period_part levels (groups_of groups) (period_part_sound (length levels)) (recursion_from_All (IsSoundGroup width_head) (groups_of groups) sound.0.parts)),
+  All-from_recursion (IsNamedPeriodPart (length levels)) (parts_in period_part levels groups)
+      (groups_sound (IsNamedPeriodPart (length levels)) width_head period_part levels (groups_of groups) (period_part_sound (length levels)) (recursion_from_All (IsSoundGroup width_head) (groups_of groups) sound.0.parts)),
   periods_sound levels es sound.1,
 )
 periods_sound levels (Dimspec letter how axis dataset ∷ es) sound = absurd sound.0

@@ -19,7 +19,7 @@ use Rattle.wf_model.specs.Io.{io_of, parts_of, output_streams}
 use Rattle.wf_model.specs.Judging.{is_known, all_known}
 use Rattle.wf_model.specs.Ranges.{Within, most_levels, IsRangedField}
 use Rattle.wf_model.specs.PlanFields.{dataset_of, dimspec_of, z_letter, z_extent, has_letter, stream_bits, fields_from, entry_extents, z_extents}
-use Rattle.wf_registry_laws.specs.ConfigLaws.{IsSoundDim, IsActive, IsSoundField}
+use Rattle.wf_registry_laws.specs.ConfigLaws.{IsSoundDimension, IsActive, IsSoundField}
 use Rattle.wf_registry_laws.specs.FieldLaws.{IsRangedExtent, LevelsAreRanged}
 use Rattle.wf_registry_laws.proofs.Names.{is_name-append}
 use Rattle.wf_registry_laws.proofs.Distinct.{each-append, each-left, each-right}
@@ -53,7 +53,7 @@ shown_short false word h = h
 
 -- ---- datasets
 
-dataset_named : (e : Entry) → IsSoundDim e → is_name (dataset_of (Some e)) ≡ true
+dataset_named : (e : Entry) → IsSoundDimension e → is_name (dataset_of (Some e)) ≡ true
 dataset_named (Dimspec letter how axis dataset) s = s.named
 dataset_named (State kind symbol dims levels stagger io dname description units) s = absurd s
 dataset_named (Rconfig kind symbol how entries default) s = absurd s
@@ -61,7 +61,7 @@ dataset_named (Package name symbol value list) s = absurd s
 dataset_named (Halo name groups) s = absurd s
 dataset_named (Period name groups) s = absurd s
 
-found_named : (name : Text) (es : List Entry) → AllByRecursion IsSoundDim es → list_any (is_entry dimspecs name) es ≡ true → is_name (dataset_of (find_entry dimspecs name es)) ≡ true
+found_named : (name : Text) (es : List Entry) → AllByRecursion IsSoundDimension es → list_any (is_entry dimspecs name) es ≡ true → is_name (dataset_of (find_entry dimspecs name es)) ≡ true
 found_named name [] all e = absurd (false≢true e)
 found_named name (x ∷ xs) all e = by (is_entry dimspecs name x) (found_named name xs all.1) e
   where
@@ -74,13 +74,13 @@ letter_known : (es : List Entry) (dims : Text) (k : ℕ) → all_known es dims �
 letter_known es dims k known within =
     true_from_ne_false (is_known es (get_or dims k 0)) (λ no. both_ways (all_known es dims) (list_all_at (is_known es) dims k 0 within no) known)
 
-letter_named : (config : Config) (dims : Text) (k : ℕ) → All IsSoundDim config.dims → all_known config.dims dims ≡ true → k < length dims
+letter_named : (config : Config) (dims : Text) (k : ℕ) → All IsSoundDimension config.dims → all_known config.dims dims ≡ true → k < length dims
     → is_name (dataset_of (dimspec_of config (get_or dims k 0))) ≡ true
 letter_named config dims k sound known within =
-    found_named (get_or dims k 0 ∷ []) config.dims (recursion_from_All IsSoundDim config.dims sound) (letter_known config.dims dims k known within)
+    found_named (get_or dims k 0 ∷ []) config.dims (recursion_from_All IsSoundDimension config.dims sound) (letter_known config.dims dims k known within)
 
 -- the letter of z, where there is one
-z_named : (config : Config) (dims : Text) → All IsSoundDim config.dims → all_known config.dims dims ≡ true → eqb (length dims) 3 ≡ true
+z_named : (config : Config) (dims : Text) → All IsSoundDimension config.dims → all_known config.dims dims ≡ true → eqb (length dims) 3 ≡ true
     → is_name (if eqb (length dims) 3 then dataset_of (dimspec_of config (z_letter dims)) else []) ≡ true
 z_named config dims sound known three =
     let within : 1 < length dims = (let n : length dims ≡ 3 = eqb-true (length dims) 3 three in omega arith) in
@@ -104,7 +104,7 @@ count_at_least : (n : ℕ) → (n ≡ 2) ⊎ (n ≡ 3) → 2 ≤ n
 count_at_least n h = ⊎_elim (λ e. omega arith) (λ e. omega arith) h
 
 level_is_ranged : (config : Config) (hooks : List HookName) (kind symbol dims levels stagger io dname description units : Text) → IsActive config.dims kind symbol dims levels stagger io dname description units
-    → All IsSoundDim config.dims → IsRangedExtent (z_extent config dims stagger) → (names : List Text) (first : ℕ) (level : ℕ × Text) → is_name level.1 ≡ true
+    → All IsSoundDimension config.dims → IsRangedExtent (z_extent config dims stagger) → (names : List Text) (first : ℕ) (level : ℕ × Text) → is_name level.1 ≡ true
     → IsRangedField (made (common config hooks (State kind symbol dims levels stagger io dname description units)) names first level)
 level_is_ranged config hooks kind symbol dims levels stagger io dname description units active sound extent names first level named =
     let columns = active.columns in
@@ -139,7 +139,7 @@ made_ranged f first symbol levels each =
 own_extent : (symbol levels : Text) (z : ℤ) → AllByRecursion IsRangedExtent (map (λ name. z) (level_names symbol levels)) → IsRangedExtent z
 own_extent symbol levels z = by_levels (λ names. AllByRecursion IsRangedExtent (map (λ name. z) names) → IsRangedExtent z) symbol levels (λ a b h. h.0) (λ a h. h.0)
 
-own_ranged : (config : Config) (hooks : List HookName) (e : Entry) (first : ℕ) → All IsSoundDim config.dims → IsSoundField config.dims e → AllByRecursion IsRangedExtent (entry_extents config e) → AreRanged (own_levels config hooks e first)
+own_ranged : (config : Config) (hooks : List HookName) (e : Entry) (first : ℕ) → All IsSoundDimension config.dims → IsSoundField config.dims e → AllByRecursion IsRangedExtent (entry_extents config e) → AreRanged (own_levels config hooks e first)
 own_ranged config hooks (State kind symbol dims levels stagger io dname description units) first sound active extents =
     let e = State kind symbol dims levels stagger io dname description units in
     let extent = own_extent symbol levels (z_extent config dims stagger) extents in
@@ -154,7 +154,7 @@ own_ranged config hooks (Period name groups) first sound active extents = absurd
 
 -- ---- all levels
 
-all_ranged : (config : Config) (hooks : List HookName) (first : ℕ) (es : List Entry) → All IsSoundDim config.dims → AllByRecursion (IsSoundField config.dims) es
+all_ranged : (config : Config) (hooks : List HookName) (first : ℕ) (es : List Entry) → All IsSoundDimension config.dims → AllByRecursion (IsSoundField config.dims) es
     → AllByRecursion IsRangedExtent (flat_map (entry_extents config) es) → AreRanged (fields_from config hooks first es)
 unfolding fields_from
 all_ranged config hooks first [] sound active extents = tt

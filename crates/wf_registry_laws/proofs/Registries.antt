@@ -20,10 +20,11 @@ use Rattle.wf_model.specs.Entries.{Kind, same_kind, number_of_kind, entry_name, 
 use Rattle.wf_model.specs.Judging.{line_fault, taken_datasets}
 use Rattle.wf_model.specs.Registry.{fault_at, broken_line, names_known, has_unknown, unknown_name, met_of, stop_of, refusal, registry_of}
 use Rattle.wf_registry_laws.specs.EntryRules.{IsSoundEntry}
-use Rattle.wf_registry_laws.specs.RegistryLaws.{AreDistinct, names_of_kind, IsSoundRegistry, RegistriesAreSound}
+use Rattle.wf_registry_laws.specs.RegistryLaws.{AreDistinct, names_of_kind, taken_by, IsSoundRegistry, RegistriesAreSound}
+use Rattle.wf_registry_laws.proofs.Taken.{none_taken}
 use Rattle.wf_registry_laws.proofs.KindNames.{among_is}
 use Rattle.wf_registry_laws.proofs.Fresh.{IsFresh, IsJudged, EachJudged, line_is_judged}
-use Rattle.wf_registry_laws.proofs.Distinct.{distinct_append, share_right, none_distinct, one_distinct, two_distinct, own_name, own_levels, own_variables, own_datasets}
+use Rattle.wf_registry_laws.proofs.Distinct.{distinct_append, share_right, none_distinct, one_distinct, two_distinct, own_name, own_taken, own_levels, own_variables, own_datasets}
 
 -- ---- each entry beside those before it
 
@@ -122,6 +123,8 @@ entries_are_sound es judged known =
       known = All-from_recursion (λ e. IsTrue (names_known es e)) es known;
       names = λ kind. distinct_after (names_of_kind kind) [] [] es (own_name kind)
           (after_weaker IsFresh (λ b e. share (names_of_kind kind e) (flat_map (names_of_kind kind) b) ≡ false) (λ b e f. name_is_new kind b e f.name) [] es fresh) none_distinct;
+      taken = distinct_after taken_by [] [] es own_taken
+          (after_weaker IsFresh (λ b e. share (taken_by e) (flat_map taken_by b) ≡ false) (λ b e f. none_taken (taken_by e) b f.taken) [] es fresh) none_distinct;
       levels = distinct_after entry_levels [] [] es own_levels
           (after_weaker IsFresh (λ b e. share (entry_levels e) (flat_map entry_levels b) ≡ false) (λ b e f. share_right (entry_levels e) (flat_map entry_symbol b) (flat_map entry_levels b) f.levels) [] es fresh) none_distinct;
       variables = distinct_after entry_variables (codes "Times" ∷ []) [] es own_variables

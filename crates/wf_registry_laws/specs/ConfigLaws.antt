@@ -12,12 +12,12 @@ use Rattle.wf_model.specs.Entries as kinds
 use Rattle.wf_model.specs.Judging.{taken_datasets}
 use Rattle.wf_model.specs.Config.{config_of}
 use Rattle.wf_registry_laws.specs.EntryRules.{IsSoundDimspec, IsSoundInteger, IsSoundExchange}
-use Rattle.wf_registry_laws.specs.RegistryLaws.{AreDistinct, names_of_kind, IsSoundRegistry}
+use Rattle.wf_registry_laws.specs.RegistryLaws.{AreDistinct, names_of_kind, taken_by, IsSoundRegistry}
 
 -- a dimspec that keeps its rules
-abbrev pub IsSoundDim : Entry → Type 0
-IsSoundDim (Dimspec letter how axis dataset) = IsSoundDimspec letter how axis dataset
-IsSoundDim other = ⊥
+abbrev pub IsSoundDimension : Entry → Type 0
+IsSoundDimension (Dimspec letter how axis dataset) = IsSoundDimspec letter how axis dataset
+IsSoundDimension other = ⊥
 
 -- an integer field that keeps its rules, with letters of these dimspecs
 pub record IsActive (all : List Entry) (kind symbol dims levels stagger io dname description units : Text) : Type 0 where
@@ -38,7 +38,7 @@ IsSoundPeriod (Period name groups) = IsSoundExchange width_head name groups
 IsSoundPeriod other = ⊥
 
 pub record IsSoundConfig (config : Config) : Type 0 where
-  pub dims : All IsSoundDim config.dims
+  pub dims : All IsSoundDimension config.dims
   pub fields : All (IsSoundField config.dims) config.fields
   pub halos : All IsSoundHalo config.halos
   pub periods : All IsSoundPeriod config.periods
@@ -46,6 +46,7 @@ pub record IsSoundConfig (config : Config) : Type 0 where
   pub symbols : AreDistinct (flat_map (names_of_kind kinds.states) config.fields)
   pub halo_names : AreDistinct (flat_map (names_of_kind kinds.halos) config.halos)
   pub period_names : AreDistinct (flat_map (names_of_kind kinds.periods) config.periods)
+  pub taken : AreDistinct (flat_map taken_by config.fields)
   pub levels : AreDistinct (flat_map entry_levels config.fields)
   -- and none is the name of a variable or dimension that every file has
   pub variables : AreDistinct (codes "Times" ∷ flat_map entry_variables config.fields)

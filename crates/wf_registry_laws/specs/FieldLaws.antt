@@ -5,11 +5,11 @@ use Rattle.wf_model.specs.declared.plan.Field.{Field}
 use Rattle.wf_model.specs.declared.plan.Plan.{Plan}
 use Rattle.wf_model.specs.declared.table.HookName.{HookName}
 use Rattle.wf_model.specs.Letters.{Text}
-use Rattle.wf_model.specs.Plans.{no_field}
+use Rattle.wf_model.specs.Plans.{no_field, nz}
 use Rattle.wf_model.specs.Ranges.{IsRangedField, most_levels}
 use Rattle.wf_model.specs.Sound.{IsLevel, IsSoundPair}
 use Rattle.wf_model.specs.Reading.{first_fault}
-use Rattle.wf_model.specs.PlanTests.{extent_fault}
+use Rattle.wf_model.specs.PlanTests.{extent_at, extent_fault}
 use Rattle.wf_model.specs.PlanFields.{fields_from, z_extents}
 use Rattle.wf_model.specs.NamesOf.{names_of}
 use Rattle.wf_registry_laws.specs.RegistryLaws.{AreDistinct}
@@ -36,7 +36,13 @@ LevelsHaveTheExtents = (config : Config) (hooks : List HookName) → map (λ (f 
 abbrev pub ExtentsAreTheLevels : Type 0
 ExtentsAreTheLevels = (config : Config) (hooks : List HookName) → All IsRangedExtent (z_extents config) → map (λ (f : Field). pos f.nz) (field_levels config hooks) ≡ z_extents config
 
--- and those that a plan's test passes are
+-- by its number, in a plan of these levels; past the end both are 0
+abbrev pub ExtentsAreNumbered : Type 0
+ExtentsAreNumbered =
+    (config : Config) (hooks : List HookName) (plan : Plan) → plan.fields ≡ field_levels config hooks → All IsRangedExtent (z_extents config) →
+    (f : ℕ) → extent_at (z_extents config) f ≡ pos (nz plan f)
+
+-- extents that a plan's test passes are in their ranges
 abbrev pub PassedExtentsAreRanged : Type 0
 PassedExtentsAreRanged = (zs : List ℤ) → first_fault (map extent_fault zs) ≡ None → All IsRangedExtent zs
 

@@ -11,18 +11,18 @@ use Rattle.wf_model.specs.NamesOf.{names_of}
 use Rattle.wf_registry_laws.specs.ConfigLaws.{IsSoundConfig}
 
 -- a part of a halo, where there are so many levels
-pub record IsSoundHaloPart (count : ℕ) (part : HaloPart) : Type 0 where
+pub record IsNamedHaloPart (count : ℕ) (part : HaloPart) : Type 0 where
   pub level : part.field < count
   pub radius : Within 1 6 part.radius
   pub cross : part.cross ≡ true → part.radius ≡ 1
 
-pub record IsSoundPeriodPart (count : ℕ) (part : PeriodPart) : Type 0 where
+pub record IsNamedPeriodPart (count : ℕ) (part : PeriodPart) : Type 0 where
   pub level : part.field < count
   pub width : Within 1 6 part.width
 
 pub record HasSoundParts (names : Names) : Type 0 where
-  pub halos : All (λ (h : Text × List HaloPart). All (IsSoundHaloPart (length names.levels)) h.1) names.halos
-  pub periods : All (λ (p : Text × List PeriodPart). All (IsSoundPeriodPart (length names.levels)) p.1) names.periods
+  pub halos : All (λ (h : Text × List HaloPart). All (IsNamedHaloPart (length names.levels)) h.1) names.halos
+  pub periods : All (λ (p : Text × List PeriodPart). All (IsNamedPeriodPart (length names.levels)) p.1) names.periods
 
 -- the names of a sound config have sound parts
 abbrev pub NamedPartsAreSound : Type 0

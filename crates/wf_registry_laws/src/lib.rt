@@ -3,7 +3,7 @@
 
 ghost use Rattle.wf_registry_laws.specs.RegistryLaws.{RegistriesAreSound};
 ghost use Rattle.wf_registry_laws.specs.ConfigLaws.{ConfigsAreSound};
-ghost use Rattle.wf_registry_laws.specs.FieldLaws.{LevelsAreRanged, LevelsHaveTheExtents, ExtentsAreTheLevels, PassedExtentsAreRanged, PairsAreSound, NamesAreTheLevels, LevelNamesAreDistinct, NamedFieldsArePairs};
+ghost use Rattle.wf_registry_laws.specs.FieldLaws.{LevelsAreRanged, LevelsHaveTheExtents, ExtentsAreTheLevels, ExtentsAreNumbered, PassedExtentsAreRanged, PairsAreSound, NamesAreTheLevels, LevelNamesAreDistinct, NamedFieldsArePairs};
 ghost use Rattle.wf_registry_laws.specs.PartLaws.{NamedPartsAreSound};
 ghost use Rattle.wf_registry_laws.specs.FileLaws.{FileVariablesAreDistinct};
 ghost use Rattle.wf_registry_laws.specs.HookLaws.{LevelsUseHooks};
@@ -31,6 +31,11 @@ pub fn levels_have_the_extents()
 /// Where these are 1 to 128, they are the extents of the field levels as numbers.
 pub fn extents_are_the_levels()
     ensures { ExtentsAreTheLevels }
+{}
+
+/// By the number of its level, each extent is that of the level in a plan.
+pub fn extents_are_numbered()
+    ensures { ExtentsAreNumbered }
 {}
 
 /// The extents that a plan's test passes are 1 to 128.
