@@ -76,21 +76,35 @@ fn phase(alloc: Global, mx: u32, to: u32, expr: Expr) -> Result<Phase, AllocErro
     })
 }
 
-/// A plan of the level `a`, which has a z letter, and of `b`, which has none, with this phase.
-fn plan(alloc: Global, periodic_x: bool, phase: Phase) -> Result<Plan, AllocError> {
+fn domains(alloc: Global, periodic_x: bool) -> Result<List<Domain>, AllocError> {
     let mut domains = Vec::new(alloc);
     domains.push(domain(alloc, periodic_x))?;
+    Ok(List::from_vec(domains))
+}
+
+fn fields(alloc: Global) -> Result<List<Field>, AllocError> {
     let mut fields = Vec::new(alloc);
     fields.push(field(alloc, "a", true)?)?;
     fields.push(field(alloc, "b", false)?)?;
+    Ok(List::from_vec(fields))
+}
+
+fn items(alloc: Global, phase: Phase) -> Result<List<Item>, AllocError> {
     let mut items = Vec::new(alloc);
-    items.push(Item::Swap(0, 0))?;
     items.push(Item::Phase(phase))?;
+    Ok(List::from_vec(items))
+}
+
+/// A plan of the level `a`, which has a z letter, and of `b`, which has none, with this phase.
+fn plan(alloc: Global, periodic_x: bool, phase: Phase) -> Result<Plan, AllocError> {
+    let domains = domains(alloc, periodic_x)?;
+    let fields = fields(alloc)?;
+    let items = items(alloc, phase)?;
     Ok(Plan {
-        domains: List::from_vec(domains),
-        fields: List::from_vec(fields),
-        items: List::from_vec(items),
-        start: *b"2000-01-01_00:00:00",
+        domains,
+        fields,
+        items,
+        start: [b'0'; 19],
         steps: 1,
         restart_steps: 0,
         restart: false,
