@@ -1,0 +1,10 @@
+//! The set-up of a run: its texts, read from a store and judged one after another.
+#![tactic(auto)]
+
+mod error;
+mod line;
+mod plan_refusal;
+mod refusals;
+
+pub use error::{Refused, SetupError};
+
