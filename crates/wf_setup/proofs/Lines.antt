@@ -1,5 +1,5 @@
 -- A printed line, word by word.
-use Rattle.std.proofs.Common.{◌≡◌, ◌∙◌, ap, refl, sym, ℕ, ◌+◌, ◌≤◌, List, [], ◌∷◌, ◌++◌, length, drop, append_assoc}
+use Rattle.std.proofs.Common.{◌≡◌, ◌∙◌, ap, refl, sym, ℕ, ◌≤◌, List, [], ◌∷◌, ◌++◌, length, drop}
 use Rattle.std.proofs.lemmas.List.{drop_all}
 use Rattle.std.specs.Borrow.{Bor}
 use Rattle.wf_model.specs.Letters.{Text}
@@ -15,10 +15,6 @@ behind (w ∷ ws) = 32 ∷ (w.now ++ behind ws)
 pub line_begins : (first : Text) (words : List (Bor Text)) → line (first ∷ texts_of words) ≡ first ++ behind words
 line_begins first [] = refl
 line_begins first (w ∷ ws) = ap (λ (t : Text). first ++ (32 ∷ t)) (line_begins w.now ws)
-
--- one word more was written
-pub behind_step : (text : Text) (w : Bor Text) (ws : List (Bor Text)) → text ++ behind (w ∷ ws) ≡ ((text ++ (32 ∷ [])) ++ w.now) ++ behind ws
-behind_step text w ws = sym (append_assoc (text ++ (32 ∷ [])) w.now (behind ws) ∙ append_assoc text (32 ∷ []) (w.now ++ behind ws))
 
 -- all words were written
 pub line_ends : (first text : Text) (words : List (Bor Text)) (k : ℕ) → length words ≤ k → first ++ behind words ≡ text ++ behind (drop k words)

@@ -5,6 +5,8 @@ mod error;
 mod line;
 mod plan_refusal;
 mod refusals;
+mod registry_files;
+mod sources;
 
 pub use error::{Refused, SetupError};
 

@@ -2,9 +2,9 @@
 
 ghost use Rattle.std.specs.Prelude.{◌≡◌, [], ◌∷◌, IfOk, codes, decimal};
 ghost use Rattle.wf_model.specs.Refusals.{line, whole, which_word, plan_words, plan_refusal};
-ghost use Rattle.wf_setup.specs.Errors.{refusal_in};
+ghost use Rattle.wf_setup.specs.Errors.{Tells};
 
-use crate::error::Refused;
+use crate::error::{Refused, SetupError};
 use crate::line::{line, number, whole};
 use std::alloc::{AllocError, Global};
 use wf_model::{Bytes, PlanFault, Which};
@@ -103,11 +103,11 @@ fn plan_line(alloc: Global, fault: &PlanFault) -> Result<Bytes, AllocError>
 }
 
 /// `plan KIND` and the parts of the fault, status 4.
-pub fn plan_refusal(alloc: Global, fault: &PlanFault) -> Result<Refused, AllocError>
-    ensures { IfOk result (λ r. refusal_in r ≡ plan_refusal fault.now) }
+pub fn plan_refusal(alloc: Global, fault: &PlanFault) -> SetupError
+    ensures { Tells result (plan_refusal fault.now) }
 {
-    Ok(Refused {
-        status: 4,
-        line: plan_line(alloc, fault)?,
-    })
+    match plan_line(alloc, fault) {
+        Ok(line) => SetupError::Refused(Refused { status: 4, line }),
+        Err(_) => SetupError::Memory,
+    }
 }

@@ -2,9 +2,9 @@
 
 ghost use Rattle.std.specs.Prelude.{◌≡◌, [], ◌∷◌, IfOk, codes, decimal};
 ghost use Rattle.wf_model.specs.Refusals.{line, registry_word, namelist_word, table_word, config_words, numbered, registry_refusal, namelist_refusal, config_refusal, table_refusal};
-ghost use Rattle.wf_setup.specs.Errors.{refusal_in};
+ghost use Rattle.wf_setup.specs.Errors.{Tells};
 
-use crate::error::Refused;
+use crate::error::{Refused, SetupError};
 use crate::line::{line, number};
 use std::alloc::{AllocError, Global};
 use wf_model::{
@@ -78,6 +78,12 @@ fn config_words(fault: &ConfigFault) -> (&[u8], &'static [u8])
     }
 }
 
+fn refused(status: u8, line: Bytes) -> SetupError
+    ensures { Tells result (record { status = status; line = line }) }
+{
+    SetupError::Refused(Refused { status, line })
+}
+
 fn registry_line(alloc: Global, file: &[u8], at: u32, kind: &[u8]) -> Result<Bytes, AllocError>
     ensures { IfOk result (λ b. b ≡ line (codes "registry" ∷ file.now ∷ decimal at ∷ kind.now ∷ [])) }
 {
@@ -86,36 +92,36 @@ fn registry_line(alloc: Global, file: &[u8], at: u32, kind: &[u8]) -> Result<Byt
 }
 
 /// `registry FILE LINE KIND`, status 2.
-pub fn registry_refusal(alloc: Global, fault: &RegistryFault) -> Result<Refused, AllocError>
-    ensures { IfOk result (λ r. refusal_in r ≡ registry_refusal fault.now) }
+pub fn registry_refusal(alloc: Global, fault: &RegistryFault) -> SetupError
+    ensures { Tells result (registry_refusal fault.now) }
 {
     let kind = registry_word(&fault.kind);
-    Ok(Refused {
-        status: 2,
-        line: registry_line(alloc, fault.file.as_slice(), fault.line, kind)?,
-    })
+    match registry_line(alloc, fault.file.as_slice(), fault.line, kind) {
+        Ok(line) => refused(2, line),
+        Err(_) => SetupError::Memory,
+    }
+}
+
+fn numbered_line(alloc: Global, what: &[u8], at: u32, kind: &[u8]) -> Result<Bytes, AllocError>
+    ensures { IfOk result (λ b. b ≡ line (what.now ∷ decimal at ∷ kind.now ∷ [])) }
+{
+    let number = number(alloc, at)?;
+    line(alloc, what, &[number.as_bytes(), kind])
 }
 
 /// A text's name, the number of a line and a kind.
-pub fn numbered(
-    alloc: Global,
-    status: u8,
-    what: &[u8],
-    at: u32,
-    kind: &[u8],
-) -> Result<Refused, AllocError>
-    ensures { IfOk result (λ r. refusal_in r ≡ numbered status what.now at kind.now) }
+pub fn numbered(alloc: Global, status: u8, what: &[u8], at: u32, kind: &[u8]) -> SetupError
+    ensures { Tells result (numbered status what.now at kind.now) }
 {
-    let number = number(alloc, at)?;
-    Ok(Refused {
-        status,
-        line: line(alloc, what, &[number.as_bytes(), kind])?,
-    })
+    match numbered_line(alloc, what, at, kind) {
+        Ok(line) => refused(status, line),
+        Err(_) => SetupError::Memory,
+    }
 }
 
 /// `namelist LINE KIND`, status 3.
-pub fn namelist_refusal(alloc: Global, fault: NamelistFault) -> Result<Refused, AllocError>
-    ensures { IfOk result (λ r. refusal_in r ≡ namelist_refusal fault) }
+pub fn namelist_refusal(alloc: Global, fault: NamelistFault) -> SetupError
+    ensures { Tells result (namelist_refusal fault) }
 {
     numbered(alloc, 3, b"namelist", fault.line, namelist_word(fault.kind))
 }
@@ -127,19 +133,19 @@ fn config_line(alloc: Global, name: &[u8], kind: &[u8]) -> Result<Bytes, AllocEr
 }
 
 /// `config NAME KIND`, status 3.
-pub fn config_refusal(alloc: Global, fault: &ConfigFault) -> Result<Refused, AllocError>
-    ensures { IfOk result (λ r. refusal_in r ≡ config_refusal fault.now) }
+pub fn config_refusal(alloc: Global, fault: &ConfigFault) -> SetupError
+    ensures { Tells result (config_refusal fault.now) }
 {
     let (name, kind) = config_words(fault);
-    Ok(Refused {
-        status: 3,
-        line: config_line(alloc, name, kind)?,
-    })
+    match config_line(alloc, name, kind) {
+        Ok(line) => refused(3, line),
+        Err(_) => SetupError::Memory,
+    }
 }
 
 /// `table LINE KIND`, status 4.
-pub fn table_refusal(alloc: Global, fault: TableFault) -> Result<Refused, AllocError>
-    ensures { IfOk result (λ r. refusal_in r ≡ table_refusal fault) }
+pub fn table_refusal(alloc: Global, fault: TableFault) -> SetupError
+    ensures { Tells result (table_refusal fault) }
 {
     numbered(alloc, 4, b"table", fault.line, table_word(fault.kind))
 }

@@ -1,0 +1,7 @@
+use Rattle.std.proofs.Common.{◌≡◌, sym, ◌∙◌, Bool, true, false, refl}
+use Rattle.wf_model.specs.Letters.{is_store_name}
+use Rattle.wf_setup.proofs.WantedFiles.{store_name_text}
+use Rattle.wf_setup.proofs.sources.store_name.Goals as goal
+
+pub returns-in-Err : goal.returns-in-Err
+returns-in-Err c = absurd (c.in-Err.ensures.cases.0 (store_name_text c.args.name.now (sym c.is_store_name.ensures ∙ c.if-not-is_store_name.false)))

@@ -1,0 +1,96 @@
+//! The Registry of a store: the files that its includes want are read one after another.
+
+ghost use Rattle.std.specs.Prelude.{◌≡◌, ℕ, Some, Contains, IsErrOf, IsTrue};
+ghost use Rattle.wf_io.specs.Files.{Rose};
+ghost use Rattle.wf_model.specs.Reading.{Gives, told_as};
+ghost use Rattle.wf_model.specs.KeptLines.{most_files};
+ghost use Rattle.wf_model.specs.Files.{Files};
+ghost use Rattle.wf_model.specs.Refusals.{registry_refusal};
+ghost use Rattle.wf_model.specs.FilesRead.{registry_with, registry_read};
+ghost use Rattle.wf_setup.specs.Errors.{refusal_of};
+ghost use Rattle.wf_setup.specs.Asked.{IsWanted, OnlyRead, includes_asked, registry_names};
+ghost use Rattle.wf_setup.specs.Steps.{step_of};
+
+use crate::error::SetupError;
+use crate::refusals::registry_refusal;
+use crate::sources::{read_source, wanted_source};
+use std::alloc::Global;
+use wf_io::{IoError, Store};
+use wf_model::{Name, Registry, SourceFile};
+use wf_registry::{RegistryError, read_registry};
+
+/// The most files that are read for includes.
+const MOST_FILES: u32 = 64;
+
+/// The Registry of some files, or the file that it wants.
+#[derive(Drop)]
+enum Step {
+    Read(Registry),
+    Wants(SourceFile),
+}
+
+/// Judges the files, and asks the store for the file that they want, if it is there.
+fn next_step<S: Store>(
+    alloc: Global,
+    store: &mut S,
+    defines: &[(Name, Name)],
+    files: &[SourceFile],
+) -> Result<Step, SetupError>
+    ensures next { (m : Files) → S.files store.old ≡ Some m → Gives (λ s. s) refusal_of result (step_of m defines.now files.now) }
+    ensures only { OnlyRead (S.files store.old) (S.files store.new) (S.faults store.old) (S.faults store.new) }
+    ensures rose { IsErrOf result SetupError.Store → Rose (S.faults store.old) (S.faults store.new) }
+    ensures asked { IsErrOf result SetupError.Store → IsWanted files.now defines.now (S.failed store.new) }
+{
+    let fault = match read_registry(alloc, files, defines) {
+        Ok(registry) => return Ok(Step::Read(registry)),
+        Err(RegistryError::Memory) => return Err(SetupError::Memory),
+        Err(RegistryError::Fault(fault)) => fault,
+    };
+    match wanted_source(alloc, store, &fault) {
+        Ok(Some(file)) => Ok(Step::Wants(file)),
+        Ok(None) => Err(registry_refusal(alloc, &fault)),
+        Err(IoError::Fault) => Err(SetupError::Store),
+        Err(IoError::Memory) => Err(SetupError::Memory),
+    }
+}
+
+/// The Registry of these files alone.
+fn judged(
+    alloc: Global,
+    defines: &[(Name, Name)],
+    files: &[SourceFile],
+) -> Result<Registry, SetupError>
+    ensures registry { (m : Files) → Gives (λ r. r) refusal_of result (told_as registry_refusal (registry_with 0 m defines.now files.now)) }
+    ensures never { IsErrOf result SetupError.Store → ⊥ }
+{
+    match read_registry(alloc, files, defines) {
+        Ok(registry) => Ok(registry),
+        Err(RegistryError::Memory) => Err(SetupError::Memory),
+        Err(RegistryError::Fault(fault)) => Err(registry_refusal(alloc, &fault)),
+    }
+}
+
+/// The Registry of these files and of those that are wanted.
+fn registry_with<S: Store>(
+    alloc: Global,
+    store: &mut S,
+    defines: &[(Name, Name)],
+    mut files: Vec<SourceFile>,
+) -> Result<Registry, SetupError>
+    ensures registry { (m : Files) → S.files store.old ≡ Some m → Gives (λ r. r) refusal_of result (told_as registry_refusal (registry_with most_files m defines.now files.items)) }
+    ensures only { OnlyRead (S.files store.old) (S.files store.new) (S.faults store.old) (S.faults store.new) }
+    ensures rose { IsErrOf result SetupError.Store → Rose (S.faults store.old) (S.faults store.new) }
+    ensures asked { IsErrOf result SetupError.Store → (m : Files) → S.files store.old ≡ Some m → Contains (includes_asked most_files m defines.now files.items) (S.failed store.new) }
+{
+    for _ in 0..MOST_FILES {
+        match next_step(alloc, store, defines, &files) {
+            Ok(Step::Read(registry)) => return Ok(registry),
+            Ok(Step::Wants(file)) => match files.push(file) {
+                Ok(()) => {}
+                Err(_) => return Err(SetupError::Memory),
+            },
+            Err(error) => return Err(error),
+        }
+    }
+    judged(alloc, defines, &files)
+}
