@@ -2,3 +2,4 @@ pub mod Lines
 pub mod Steps
 pub mod WantedFiles
 pub mod Stores
+pub mod ConfigChain

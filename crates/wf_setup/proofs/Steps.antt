@@ -7,17 +7,17 @@ use Rattle.wf_model.specs.declared.registry.Registry.{Registry}
 use Rattle.wf_model.specs.declared.registry.RegistryFault.{RegistryFault}
 use Rattle.wf_model.specs.Reading.{◌>>=◌, Fails, told_as}
 use Rattle.wf_model.specs.Letters.{Text, is_store_name}
-use Rattle.wf_model.specs.KeptLines.{Defines, most_files}
+use Rattle.wf_model.specs.KeptLines.{Defines, main_file, most_files}
 use Rattle.wf_model.specs.Registry.{registry_of}
 use Rattle.wf_model.specs.Files.{Files}
 use Rattle.wf_model.specs.Refusals.{Refusal, registry_refusal}
-use Rattle.wf_model.specs.FilesRead.{source, wanted, wanted_file, with_wanted, after_wanted, or_wanted, registry_with}
+use Rattle.wf_model.specs.FilesRead.{source, wanted, wanted_file, with_wanted, after_wanted, or_wanted, main_source, registry_with, registry_read}
 use Rattle.wf_setup.specs.declared.error.SetupError.{SetupError}
 use Rattle.wf_setup.specs.declared.error.SetupError.TheVariants as setup
 use Rattle.wf_setup.specs.declared.registry_files.Step.{Step}
 use Rattle.wf_setup.specs.declared.registry_files.Step.TheVariants.{Read, Wants}
 use Rattle.wf_setup.specs.Errors.{Tells, refusal_of, refusal_in}
-use Rattle.wf_setup.specs.Asked.{IsWanted, source_named, wanted_source, names_behind, names_wanted, names_after, includes_asked}
+use Rattle.wf_setup.specs.Asked.{IsWanted, source_named, wanted_source, names_behind, names_wanted, names_after, includes_asked, registry_names}
 use Rattle.wf_setup.specs.Steps.{step_with, step_after, step_of}
 
 -- an error that tells a refusal is that of a reading that is refused so
@@ -168,3 +168,27 @@ pub left_asks : (n k : ℕ) (m : Files) (defines : Defines) (first have : List S
 left_asks n k m defines first have name is w left =
     let at : Left (suc k) m defines first have = subst (λ i. Left i m defines first have) is left in
     at.names name (names_first k m defines have name w)
+
+-- ---- the file `Registry`, and the Registry of a store
+
+pub main_none : (text : Option (List ℕ)) → None ≡ option_map (source main_file) text → [] ≡ main_source text
+main_none None e = refl
+main_none (Some text) e = absurd (cc e)
+
+pub main_some : (text : Option (List ℕ)) (s : SourceFile) → Some s ≡ option_map (source main_file) text → s ∷ [] ≡ main_source text
+main_some None s e = absurd (cc e)
+main_some (Some text) s e = let same : s ≡ source main_file text = cc in ap (λ (f : SourceFile). f ∷ []) same
+
+pub registry_is : (m : Files) (defines : Defines) (have : List SourceFile) → have ≡ main_source (m main_file)
+    → told_as registry_refusal (registry_with most_files m defines have) ≡ registry_read m defines
+unfolding registry_read
+registry_is m defines have is = ap (λ (files : List SourceFile). told_as registry_refusal (registry_with most_files m defines files)) is
+
+pub main_asked : (m : Files) (defines : Defines) (q : Text) → q ≡ main_file → Contains (registry_names m defines) q
+unfolding registry_names
+main_asked m defines q is = (0, omega arith, sym is)
+
+pub include_asked : (m : Files) (defines : Defines) (have : List SourceFile) (q : Text) → have ≡ main_source (m main_file) → Contains (includes_asked most_files m defines have) q → Contains (registry_names m defines) q
+unfolding registry_names
+include_asked m defines have q is there =
+    behind_first main_file q (includes_asked most_files m defines (main_source (m main_file))) (subst (λ (files : List SourceFile). Contains (includes_asked most_files m defines files) q) is there)

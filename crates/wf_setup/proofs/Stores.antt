@@ -25,13 +25,13 @@ pub only_then : (a b c : Option Files) (i j k : ℕ) → OnlyRead a b i j → On
 only_then a b c i j k p q = record { same = told_twice a b c p.same q.same; later = omega (arith, p.later, q.later) }
 
 -- what a store told it still tells
+pub told_after : (a b : Option Files) → Told a b (λ m n. n ≡ m) → (m : Files) → a ≡ Some m → b ≡ Some m
+told_after None b p m e = absurd (cc e)
+told_after (Some k) None p m e = absurd p
+told_after (Some k) (Some n) p m e = ap (λ (x : Files). Some x) p ∙ e
+
 pub told_still : (a b : Option Files) (i j : ℕ) → OnlyRead a b i j → (m : Files) → a ≡ Some m → b ≡ Some m
-told_still a b i j p m e = by_cases a b p.same e
-  where
-    by_cases : (a b : Option Files) → Told a b (λ m n. n ≡ m) → a ≡ Some m → b ≡ Some m
-    by_cases None b p e = absurd (cc e)
-    by_cases (Some k) None p e = absurd p
-    by_cases (Some k) (Some n) p e = ap (λ (x : Files). Some x) p ∙ e
+told_still a b i j p = told_after a b p.same
 
 -- a count that rose later rose
 pub rose_later : (i j k : ℕ) → i ≤ j → Rose j k → Rose i k

@@ -1,5 +1,5 @@
 -- Names that a store takes, and the file that a fault wants.
-use Rattle.std.proofs.Common.{◌≡◌, ◌∙◌, sym, ap, refl, ℕ, zero, suc, ◌<◌, Bool, true, false, ◌&&◌, if◌then◌else◌, List, [], ◌∷◌, Option, Some, None, IsTrue, arith, slice_index}
+use Rattle.std.proofs.Common.{◌≡◌, ◌∙◌, sym, ap, refl, ℕ, zero, suc, ◌<◌, Bool, true, false, ◌&&◌, if◌then◌else◌, List, [], ◌∷◌, Option, Some, None, Result, Ok, Err, IfOk, IsTrue, arith, slice_index}
 use Rattle.std.specs.Option.{option_map, option_and_then}
 use Rattle.std.specs.List.{list_all}
 use Rattle.std.specs.Str.{IsUtf8, IsAscii}
@@ -44,3 +44,11 @@ none_taken m f name e not_taken =
 pub found_wanted : (m : Files) (f : RegistryFault) (name : Text) → Some name ≡ wanted f.kind → is_store_name name ≡ true → option_map (source name) (m name) ≡ wanted_source m f
 found_wanted m f name e taken =
     ap (λ (t : Bool). option_map (source name) (if t then m name else None)) (sym taken) ∙ ap (λ (o : Option Text). option_and_then (source_named m) o) e
+
+-- the file that was read is the wanted one
+pub found_named : {E : Type 0} (told : Option Files) (f : RegistryFault) (name other : Text) (result : Result (Option SourceFile) E)
+    → Some name ≡ wanted f.kind → other ≡ name → IsTrue (is_store_name name)
+    → IfOk result (λ o. (m : Files) → told ≡ Some m → o ≡ option_map (source other) (m other)) → IfOk result (λ o. (m : Files) → told ≡ Some m → o ≡ wanted_source m f)
+found_named told f name other (Ok o) e same takes found =
+    λ m is. found m is ∙ ap (λ (t : Text). option_map (source t) (m t)) same ∙ found_wanted m f name e takes
+found_named told f name other (Err x) e same takes found = tt

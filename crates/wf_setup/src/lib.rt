@@ -1,6 +1,7 @@
 //! The set-up of a run: its texts, read from a store and judged one after another.
 #![tactic(auto)]
 
+mod configs;
 mod error;
 mod line;
 mod plan_refusal;
@@ -8,5 +9,5 @@ mod refusals;
 mod registry_files;
 mod sources;
 
+pub use configs::read_config;
 pub use error::{Refused, SetupError};
-

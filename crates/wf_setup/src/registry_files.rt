@@ -1,12 +1,13 @@
 //! The Registry of a store: the files that its includes want are read one after another.
 
-ghost use Rattle.std.specs.Prelude.{◌≡◌, ℕ, Some, Contains, IsErrOf, IsTrue};
-ghost use Rattle.wf_io.specs.Files.{Rose};
+ghost use Rattle.std.specs.Prelude.{◌≡◌, Some, Contains, IsErrOf, IfOk};
+ghost use Rattle.wf_io.specs.Files.{Rose, Counted};
 ghost use Rattle.wf_model.specs.Reading.{Gives, told_as};
-ghost use Rattle.wf_model.specs.KeptLines.{most_files};
+ghost use Rattle.wf_model.specs.KeptLines.{main_file, most_files};
 ghost use Rattle.wf_model.specs.Files.{Files};
 ghost use Rattle.wf_model.specs.Refusals.{registry_refusal};
-ghost use Rattle.wf_model.specs.FilesRead.{registry_with, registry_read};
+ghost use Rattle.wf_model.specs.FilesRead.{main_source, registry_with, registry_read};
+ghost use Rattle.wf_model.specs.StoreRuns.{Told};
 ghost use Rattle.wf_setup.specs.Errors.{refusal_of};
 ghost use Rattle.wf_setup.specs.Asked.{IsWanted, OnlyRead, includes_asked, registry_names};
 ghost use Rattle.wf_setup.specs.Steps.{step_of};
@@ -93,4 +94,42 @@ fn registry_with<S: Store>(
         }
     }
     judged(alloc, defines, &files)
+}
+
+/// The file `Registry`, if it is there.
+fn main_files<S: Store>(alloc: Global, store: &mut S) -> Result<Vec<SourceFile>, IoError>
+    ensures files { IfOk result (λ v. (m : Files) → S.files store.old ≡ Some m → v.items ≡ main_source (m main_file)) }
+    ensures same { Told (S.files store.old) (S.files store.new) (λ m n. n ≡ m) }
+    ensures faults { Counted (S.faults store.old) (S.faults store.new) result }
+    ensures failed { IsErrOf result IoError.Fault → S.failed store.new ≡ main_file }
+{
+    let found = match read_source(alloc, store, "Registry") {
+        Ok(found) => found,
+        Err(error) => return Err(error),
+    };
+    match found {
+        None => Ok(Vec::new(alloc)),
+        Some(file) => match vec![in alloc; file] {
+            Ok(files) => Ok(files),
+            Err(_) => Err(IoError::Memory),
+        },
+    }
+}
+
+/// The Registry of a store.
+pub fn registry_of_store<S: Store>(
+    alloc: Global,
+    store: &mut S,
+    defines: &[(Name, Name)],
+) -> Result<Registry, SetupError>
+    ensures registry { (m : Files) → S.files store.old ≡ Some m → Gives (λ r. r) refusal_of result (registry_read m defines.now) }
+    ensures only { OnlyRead (S.files store.old) (S.files store.new) (S.faults store.old) (S.faults store.new) }
+    ensures rose { IsErrOf result SetupError.Store → Rose (S.faults store.old) (S.faults store.new) }
+    ensures asked { IsErrOf result SetupError.Store → (m : Files) → S.files store.old ≡ Some m → Contains (registry_names m defines.now) (S.failed store.new) }
+{
+    match main_files(alloc, store) {
+        Ok(files) => registry_with(alloc, store, defines, files),
+        Err(IoError::Fault) => Err(SetupError::Store),
+        Err(IoError::Memory) => Err(SetupError::Memory),
+    }
 }
