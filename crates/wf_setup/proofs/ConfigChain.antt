@@ -1,5 +1,5 @@
 -- The chain of Registry, namelist and config.
-use Rattle.std.proofs.Common.{◌≡◌, ◌∙◌, sym, ap, refl, subst, ℕ, Bool, true, false, List, [], ◌∷◌, ◌++◌, Option, Some, None, Result, Ok, Err, Contains, codes, arith}
+use Rattle.std.proofs.Common.{◌≡◌, ◌∙◌, sym, ap, refl, subst, ℕ, Bool, true, false, List, [], ◌∷◌, ◌++◌, Option, Some, None, Result, Ok, Err, Contains, codes, arith, if◌then◌else◌}
 use Rattle.std.proofs.lemmas.List.Elements.{Contains-append_left, Contains-append_right}
 use Rattle.wf_model.specs.declared.registry.Registry.{Registry}
 use Rattle.wf_model.specs.declared.namelist.Namelist.{Namelist}
@@ -8,8 +8,11 @@ use Rattle.wf_model.specs.Reading.{◌>>=◌, Fails, Gives, told_as}
 use Rattle.wf_model.specs.Letters.{Text}
 use Rattle.wf_model.specs.KeptLines.{Defines, main_file}
 use Rattle.wf_model.specs.Config.{config_of}
+use Rattle.wf_model.specs.Namelist.{namelist_of}
+use Rattle.std.specs.Str.{IsUtf8, is_utf8}
+use Rattle.std.proofs.lemmas.Str.{IsUtf8-from_is_utf8, is_utf8-from_IsUtf8}
 use Rattle.wf_model.specs.Files.{Files}
-use Rattle.wf_model.specs.Refusals.{Refusal, config_refusal}
+use Rattle.wf_model.specs.Refusals.{Refusal, config_refusal, numbered, namelist_refusal}
 use Rattle.wf_model.specs.FilesRead.{registry_read, namelist_text, config_read}
 use Rattle.wf_model.proofs.ReadingLemmas.{Fails-chain, Fails-along, Gives-chain}
 use Rattle.wf_setup.specs.declared.error.SetupError.{SetupError}
@@ -56,3 +59,22 @@ pub namelist_among : (m : Files) (defines : Defines) (r : Registry) (q : Text) �
 unfolding config_names
 namelist_among m defines r q is same = name_last (registry_names m defines) (registry_read m defines) r (codes "namelist.input") q is same
 
+
+-- ---- the namelist of a text
+
+by_test : List ℕ → Bool → Result Namelist Refusal
+by_test text test = if test then told_as namelist_refusal (namelist_of text) else Err (numbered 3 (codes "namelist") 0 (codes "NotText"))
+
+-- the text is UTF-8
+pub namelist_of_utf8 : (text : List ℕ) → IsUtf8 text → told_as namelist_refusal (namelist_of text) ≡ namelist_text (Some text)
+unfolding by_test
+namelist_of_utf8 text is = ap (by_test text) (sym (is_utf8-from_IsUtf8 text is))
+
+-- it isn't
+pub namelist_of_other : (text : List ℕ) → ¬ (IsUtf8 text) → namelist_text (Some text) ≡ Err (numbered 3 (codes "namelist") 0 (codes "NotText"))
+unfolding by_test
+namelist_of_other text is_not = ap (by_test text) (no_test (is_utf8 text) refl)
+  where
+    no_test : (test : Bool) → is_utf8 text ≡ test → is_utf8 text ≡ false
+    no_test true is = absurd (is_not (IsUtf8-from_is_utf8 text is))
+    no_test false is = is

@@ -3,3 +3,5 @@ pub mod Steps
 pub mod WantedFiles
 pub mod Stores
 pub mod ConfigChain
+pub mod Faults
+pub mod CaseChain

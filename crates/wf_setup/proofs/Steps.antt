@@ -23,7 +23,7 @@ use Rattle.wf_setup.specs.Steps.{step_with, step_after, step_of}
 -- an error that tells a refusal is that of a reading that is refused so
 pub Fails-tells : {Y : Type 0} (e : SetupError) (x : Refusal) (read : Result Y Refusal) → read ≡ Err x → Tells e x → Fails (refusal_of e) read
 Fails-tells (setup.Refused r) x read is tells = is ∙ ap (λ (y : Refusal). Err y) (sym tells)
-Fails-tells setup.Store x read is tells = absurd tells
+Fails-tells (setup.Store name) x read is tells = absurd tells
 Fails-tells setup.Memory x read is tells = tt
 
 -- ---- the files alone

@@ -1,5 +1,5 @@
 -- Which files a store is asked for, and what reading leaves of a store.
-use Rattle.std.specs.Prelude.{◌≡◌, ℕ, zero, suc, ◌≤◌, Bool, ◌||◌, ◌==◌, List, [], ◌∷◌, ◌++◌, Option, Some, None, option_map, option_and_then, Result, Ok, Err, if◌then◌else◌, IsTrue, codes}
+use Rattle.std.specs.Prelude.{◌≡◌, ℕ, zero, suc, ◌≤◌, Bool, ◌||◌, ◌==◌, List, [], ◌∷◌, ◌++◌, Option, Some, None, option_map, option_and_then, Result, Ok, Err, if◌then◌else◌, IsTrue, Contains, codes}
 use Rattle.wf_model.specs.declared.registry.SourceFile.{SourceFile}
 use Rattle.wf_model.specs.declared.registry.Registry.{Registry}
 use Rattle.wf_model.specs.declared.registry.RegistryFault.{RegistryFault}
@@ -9,6 +9,8 @@ use Rattle.wf_model.specs.Registry.{registry_of}
 use Rattle.wf_model.specs.Files.{Files}
 use Rattle.wf_model.specs.StoreRuns.{Told}
 use Rattle.wf_model.specs.Refusals.{Refusal}
+use Rattle.wf_setup.specs.declared.error.SetupError.{SetupError}
+use Rattle.wf_setup.specs.declared.error.SetupError.TheVariants as setup
 use Rattle.wf_model.specs.FilesRead.{source, wanted, wanted_file, main_source, registry_read, config_read}
 
 -- a byte of a name that a store takes: of a name, or `-` (45), `.` (46) or `:` (58)
@@ -67,6 +69,24 @@ config_names files defines = registry_names files defines ++ unless_refused (reg
 -- for a config and a table
 unfoldable pub case_names : Files → Defines → List Text
 case_names files defines = config_names files defines ++ unless_refused (config_read files defines) (codes "stencil.table" ∷ [])
+
+-- where the error is a fault of the store, its file is one of these
+abbrev pub FaultAmong : SetupError → List Text → Type 0
+FaultAmong (setup.Refused r) names = Unit {0}
+FaultAmong (setup.Store name) names = Contains names name
+FaultAmong setup.Memory names = Unit {0}
+
+-- and it is a file that the Registry of these files wants
+abbrev pub FaultWanted : SetupError → List SourceFile → Defines → Type 0
+FaultWanted (setup.Refused r) have defines = Unit {0}
+FaultWanted (setup.Store name) have defines = IsWanted have defines name
+FaultWanted setup.Memory have defines = Unit {0}
+
+-- and it is the file that a Registry's fault wants
+abbrev pub FaultOnWanted : SetupError → RegistryFault → Type 0
+FaultOnWanted (setup.Refused r) f = Unit {0}
+FaultOnWanted (setup.Store name) f = (wanted f.kind ≡ Some name) × IsTrue (is_store_name name)
+FaultOnWanted setup.Memory f = Unit {0}
 
 -- ---- a store from which only was read: its files stay, and its count of faults doesn't fall
 pub record OnlyRead (old new : Option Files) (before after : ℕ) : Type 0 where

@@ -1,28 +1,28 @@
 //! The config of a store's Registry and namelist.
 
-ghost use Rattle.std.specs.Prelude.{◌≡◌, Some, Contains, IsErrOf, codes};
-ghost use Rattle.wf_io.specs.Files.{Rose};
+ghost use Rattle.std.specs.Prelude.{◌≡◌, Some, IfErr, codes};
 ghost use Rattle.wf_model.specs.Reading.{Gives, told_as};
 ghost use Rattle.wf_model.specs.Files.{Files};
 ghost use Rattle.wf_model.specs.Config.{config_of};
 ghost use Rattle.wf_model.specs.Refusals.{config_refusal};
 ghost use Rattle.wf_model.specs.FilesRead.{namelist_text, config_read};
-ghost use Rattle.wf_setup.specs.Errors.{refusal_of};
-ghost use Rattle.wf_setup.specs.Asked.{OnlyRead, config_names};
+ghost use Rattle.wf_setup.specs.Errors.{refusal_of, NoFault, FaultOn, FaultTold};
+ghost use Rattle.wf_setup.specs.Asked.{OnlyRead, FaultAmong, config_names};
 
-use crate::error::SetupError;
+use crate::error::{SetupError, io_error};
 use crate::refusals::{config_refusal, namelist_refusal, numbered};
 use crate::registry_files::registry_of_store;
 use std::alloc::Global;
 use std::str::from_utf8;
 use wf_config::{ConfigError, bind};
-use wf_io::{IoError, Store};
+use wf_io::Store;
 use wf_model::{Config, Name, Namelist, Registry};
 use wf_namelist::{NamelistError, read_namelist};
 
+#[tactic(auto, using(crate::proofs::Faults::tells_no_fault))]
 fn namelist_of_text(alloc: Global, text: &[u8]) -> Result<Namelist, SetupError>
     ensures namelist { Gives (λ n. n) refusal_of result (namelist_text (Some text.now)) }
-    ensures never { IsErrOf result SetupError.Store → ⊥ }
+    ensures never { IfErr result NoFault }
 {
     let text = match from_utf8(text) {
         Ok(text) => text,
@@ -36,24 +36,25 @@ fn namelist_of_text(alloc: Global, text: &[u8]) -> Result<Namelist, SetupError>
 }
 
 /// The namelist of a store.
+#[tactic(auto, using(crate::proofs::Faults::io_free, crate::proofs::Faults::io_on, crate::proofs::Faults::io_told, crate::proofs::Faults::tells_no_fault, crate::proofs::Faults::told_of_none, crate::proofs::Faults::on_of_none, crate::proofs::Faults::fails_free))]
 fn namelist_of_store<S: Store>(alloc: Global, store: &mut S) -> Result<Namelist, SetupError>
     ensures namelist { (m : Files) → S.files store.old ≡ Some m → Gives (λ n. n) refusal_of result (namelist_text (m (codes "namelist.input"))) }
     ensures only { OnlyRead (S.files store.old) (S.files store.new) (S.faults store.old) (S.faults store.new) }
-    ensures rose { IsErrOf result SetupError.Store → Rose (S.faults store.old) (S.faults store.new) }
-    ensures failed { IsErrOf result SetupError.Store → S.failed store.new ≡ codes "namelist.input" }
+    ensures fault { IfErr result (λ e. FaultTold e (S.faults store.old) (S.faults store.new) (S.failed store.new)) }
+    ensures on { IfErr result (λ e. FaultOn e (codes "namelist.input")) }
 {
     match store.read(alloc, "namelist.input") {
         Ok(None) => Err(numbered(alloc, 3, b"namelist", 0, b"MissingFile")),
         Ok(Some(text)) => namelist_of_text(alloc, &text),
-        Err(IoError::Fault) => Err(SetupError::Store),
-        Err(IoError::Memory) => Err(SetupError::Memory),
+        Err(error) => Err(io_error(alloc, "namelist.input", error)),
     }
 }
 
 /// What Registry and namelist say together.
+#[tactic(auto, using(crate::proofs::Faults::tells_no_fault))]
 fn bound(alloc: Global, registry: &Registry, namelist: &Namelist) -> Result<Config, SetupError>
     ensures config { Gives (λ c. c) refusal_of result (told_as config_refusal (config_of registry.now namelist.now)) }
-    ensures never { IsErrOf result SetupError.Store → ⊥ }
+    ensures never { IfErr result NoFault }
 {
     match bind(alloc, registry, namelist) {
         Ok(config) => Ok(config),
@@ -80,8 +81,8 @@ pub fn read_config<S: Store>(
 ) -> Result<Config, SetupError>
     ensures config { (m : Files) → S.files store.old ≡ Some m → Gives (λ c. c) refusal_of result (config_read m defines.now) }
     ensures only { OnlyRead (S.files store.old) (S.files store.new) (S.faults store.old) (S.faults store.new) }
-    ensures rose { IsErrOf result SetupError.Store → Rose (S.faults store.old) (S.faults store.new) }
-    ensures asked { IsErrOf result SetupError.Store → (m : Files) → S.files store.old ≡ Some m → Contains (config_names m defines.now) (S.failed store.new) }
+    ensures fault { IfErr result (λ e. FaultTold e (S.faults store.old) (S.faults store.new) (S.failed store.new)) }
+    ensures asked { IfErr result (λ e. (m : Files) → S.files store.old ≡ Some m → FaultAmong e (config_names m defines.now)) }
 {
     let registry = match registry_of_store(alloc, store, defines) {
         Ok(registry) => registry,

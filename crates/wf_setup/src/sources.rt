@@ -1,17 +1,17 @@
 //! Files of the Registry, read from a store.
 
-ghost use Rattle.std.specs.Prelude.{◌≡◌, Some, IfOk, IsErrOf, IsTrue, MatchOption, option_map, false};
+ghost use Rattle.std.specs.Prelude.{◌≡◌, Some, None, IfOk, IfErr, IsTrue, MatchOption, option_map, false};
 ghost use Rattle.std.specs.List.{list_all};
-ghost use Rattle.wf_io.specs.Files.{Counted, failed_name};
 ghost use Rattle.wf_model.specs.Letters.{is_store_name};
 ghost use Rattle.wf_model.specs.Files.{Files};
-ghost use Rattle.wf_model.specs.StoreRuns.{Told};
 ghost use Rattle.wf_model.specs.FilesRead.{source, wanted};
-ghost use Rattle.wf_setup.specs.Asked.{is_store_byte, wanted_source};
+ghost use Rattle.wf_setup.specs.Asked.{is_store_byte, wanted_source, OnlyRead, FaultOnWanted};
+ghost use Rattle.wf_setup.specs.Errors.{refusal_of, FaultOn, FaultTold};
 
+use crate::error::{SetupError, io_error};
 use std::alloc::{AllocError, Global};
 use std::str::from_utf8;
-use wf_io::{IoError, Store};
+use wf_io::Store;
 use wf_model::{Bytes, RegistryFault, RegistryKind, SourceFile};
 
 fn are_store_bytes(name: &[u8]) -> bool
@@ -52,24 +52,26 @@ fn source(alloc: Global, name: &str, text: Vec<u8>) -> Result<SourceFile, AllocE
 }
 
 /// The file of this name, if it is there.
+#[tactic(auto, using(crate::proofs::Faults::io_free, crate::proofs::Faults::io_on, crate::proofs::Faults::io_told))]
 pub fn read_source<S: Store>(
     alloc: Global,
     store: &mut S,
     name: &str,
-) -> Result<Option<SourceFile>, IoError>
+) -> Result<Option<SourceFile>, SetupError>
     requires { IsTrue (is_store_name name.now) }
     ensures found { IfOk result (λ o. (m : Files) → S.files store.old ≡ Some m → o ≡ option_map (source name.now) (m name.now)) }
-    ensures same { Told (S.files store.old) (S.files store.new) (λ m n. n ≡ m) }
-    ensures faults { Counted (S.faults store.old) (S.faults store.new) result }
-    ensures failed { IsErrOf result IoError.Fault → S.failed store.new ≡ name.now }
+    ensures free { IfErr result (λ e. refusal_of e ≡ None) }
+    ensures only { OnlyRead (S.files store.old) (S.files store.new) (S.faults store.old) (S.faults store.new) }
+    ensures fault { IfErr result (λ e. FaultTold e (S.faults store.old) (S.faults store.new) (S.failed store.new)) }
+    ensures on { IfErr result (λ e. FaultOn e name.now) }
 {
     match store.read(alloc, name) {
         Ok(None) => Ok(None),
         Ok(Some(text)) => match source(alloc, name, text) {
             Ok(file) => Ok(Some(file)),
-            Err(_) => Err(IoError::Memory),
+            Err(_) => Err(SetupError::Memory),
         },
-        Err(error) => Err(error),
+        Err(error) => Err(io_error(alloc, name, error)),
     }
 }
 
@@ -88,12 +90,12 @@ pub fn wanted_source<S: Store>(
     alloc: Global,
     store: &mut S,
     fault: &RegistryFault,
-) -> Result<Option<SourceFile>, IoError>
+) -> Result<Option<SourceFile>, SetupError>
     ensures found { IfOk result (λ o. (m : Files) → S.files store.old ≡ Some m → o ≡ wanted_source m fault.now) }
-    ensures same { Told (S.files store.old) (S.files store.new) (λ m n. n ≡ m) }
-    ensures faults { Counted (S.faults store.old) (S.faults store.new) result }
-    ensures wants { IsErrOf result IoError.Fault → wanted fault.now.kind ≡ Some (S.failed store.new) }
-    ensures takes { IsErrOf result IoError.Fault → IsTrue (is_store_name (S.failed store.new)) }
+    ensures free { IfErr result (λ e. refusal_of e ≡ None) }
+    ensures only { OnlyRead (S.files store.old) (S.files store.new) (S.faults store.old) (S.faults store.new) }
+    ensures fault { IfErr result (λ e. FaultTold e (S.faults store.old) (S.faults store.new) (S.failed store.new)) }
+    ensures on { IfErr result (λ e. FaultOnWanted e fault.now) }
 {
     let Some(name) = wanted(&fault.kind) else {
         return Ok(None);

@@ -2,6 +2,8 @@
 #![tactic(auto)]
 
 mod cells;
+mod check_text;
+mod checks;
 mod frames;
 mod header;
 mod memory;
@@ -15,6 +17,9 @@ mod words;
 mod writes;
 
 pub use top::tool_main;
+
+#[cfg(test)]
+mod check_tests;
 
 #[cfg(test)]
 mod tests;

@@ -1,14 +1,14 @@
-use Rattle.std.proofs.Common.{◌≡◌, ◌≤◌, ap, sym, ◌∙◌, ◌-◌, ◌+◌, suc, ℕ, List, Ok, Err, subst, arith, add-one}
+use Rattle.std.proofs.Common.{◌≡◌, ◌≤◌, ap, sym, ◌∙◌, ◌-◌, ◌+◌, suc, ℕ, List, Ok, subst, arith, add-one}
 use Rattle.wf_model.specs.declared.registry.SourceFile.{SourceFile}
 use Rattle.wf_model.proofs.ReadingLemmas.{Fails-along}
-use Rattle.wf_setup.specs.declared.error.SetupError.{SetupError}
-use Rattle.wf_setup.specs.declared.error.SetupError.TheVariants as setup
 use Rattle.wf_setup.specs.declared.registry_files.Step.{Step}
 use Rattle.wf_setup.specs.Errors.{refusal_of}
-use Rattle.wf_setup.specs.Asked.{IsWanted}
+use Rattle.wf_setup.specs.Asked.{FaultWanted, includes_asked}
+use Rattle.wf_model.specs.KeptLines.{most_files}
 use Rattle.wf_setup.specs.Steps.{step_of}
 use Rattle.wf_setup.proofs.Steps.{Left, left_read, left_fails, left_asks, left_more}
 use Rattle.wf_setup.proofs.Stores.{told_still, only_then}
+use Rattle.wf_setup.proofs.Faults.{among_wanted, told_later}
 use Rattle.wf_setup.proofs.registry_files.registry_with.Goals as goal
 
 -- one turn less is left
@@ -33,13 +33,16 @@ returns-in-Err-clause-registry g c = λ m told.
     (c.loop.invariant.left m told)
 
 pub returns-in-Err-clause-asked : goal.returns-in-Err-clause-asked
-returns-in-Err-clause-asked g c = λ fault m told.
-    let is_fault : c.in-Err.error ≡ setup.Store = cc in
-    left_asks (64 - c.loop.counter) (64 - (c.loop.counter + 1)) m c.args.defines.now c.args.files.items c.loop.files.items (g.S.Store.failed c.next_step.new.store)
-    (turns c.loop.counter (omega arith))
-    (subst (λ (files : List SourceFile). IsWanted files c.args.defines.now (g.S.Store.failed c.next_step.new.store)) c.deref.ensures.value
-        (c.in-Err.ensures.asked (ap (λ (e : SetupError). Err e) is_fault)))
-    (c.loop.invariant.left m told)
+returns-in-Err-clause-asked g c = λ m told.
+    among_wanted c.in-Err.error c.loop.files.items c.args.defines.now (includes_asked most_files m c.args.defines.now c.args.files.items)
+    (λ q wanted. left_asks (64 - c.loop.counter) (64 - (c.loop.counter + 1)) m c.args.defines.now c.args.files.items c.loop.files.items q
+        (turns c.loop.counter (omega arith)) wanted (c.loop.invariant.left m told))
+    (subst (λ (files : List SourceFile). FaultWanted c.in-Err.error files c.args.defines.now) c.deref.ensures.value c.in-Err.ensures.asked)
+
+pub returns-in-Err-clause-fault : goal.returns-in-Err-clause-fault
+returns-in-Err-clause-fault g c =
+    told_later c.in-Err.error (g.S.Store.faults c.args.store.now) (g.S.Store.faults c.loop.store) (g.S.Store.faults c.next_step.new.store) (g.S.Store.failed c.next_step.new.store)
+    c.loop.invariant.only.later c.in-Err.ensures.fault
 
 pub loop-preserved : goal.loop-preserved
 loop-preserved g c = record {
