@@ -1,12 +1,12 @@
 -- The chain of Registry, namelist and config.
-use Rattle.std.proofs.Common.{◌≡◌, ◌∙◌, sym, ap, refl, subst, ℕ, Bool, true, false, List, [], ◌∷◌, ◌++◌, Option, Some, None, Result, Ok, Err, Contains, codes, arith, if◌then◌else◌}
+use Rattle.std.proofs.Common.{◌≡◌, sym, ap, refl, subst, ℕ, Bool, true, false, List, [], ◌∷◌, ◌++◌, Option, Some, Result, Ok, Err, Contains, codes, arith, if◌then◌else◌}
 use Rattle.std.proofs.lemmas.List.Elements.{Contains-append_left, Contains-append_right}
 use Rattle.wf_model.specs.declared.registry.Registry.{Registry}
 use Rattle.wf_model.specs.declared.namelist.Namelist.{Namelist}
 use Rattle.wf_model.specs.declared.config.Config.{Config}
 use Rattle.wf_model.specs.Reading.{◌>>=◌, Fails, Gives, told_as}
 use Rattle.wf_model.specs.Letters.{Text}
-use Rattle.wf_model.specs.KeptLines.{Defines, main_file}
+use Rattle.wf_model.specs.KeptLines.{Defines}
 use Rattle.wf_model.specs.Config.{config_of}
 use Rattle.wf_model.specs.Namelist.{namelist_of}
 use Rattle.std.specs.Str.{IsUtf8, is_utf8}
@@ -58,7 +58,6 @@ registry_among m defines q there = Contains-append_left (registry_names m define
 pub namelist_among : (m : Files) (defines : Defines) (r : Registry) (q : Text) → registry_read m defines ≡ Ok r → q ≡ codes "namelist.input" → Contains (config_names m defines) q
 unfolding config_names
 namelist_among m defines r q is same = name_last (registry_names m defines) (registry_read m defines) r (codes "namelist.input") q is same
-
 
 -- ---- the namelist of a text
 

@@ -15,7 +15,7 @@ use Rattle.wf_model.specs.Reading.{Fails}
 use Rattle.wf_model.specs.FilesRead.{wanted, main_source}
 use Rattle.wf_setup.specs.declared.error.SetupError.{SetupError}
 use Rattle.wf_setup.specs.declared.error.SetupError.TheVariants as setup
-use Rattle.wf_setup.specs.Errors.{refusal_of, Tells, NoFault, FaultOn, IsFault, FaultTold, IsIoError}
+use Rattle.wf_setup.specs.Errors.{refusal_of, Tells, NoFault, FaultOn, FaultTold, IsIoError}
 use Rattle.wf_setup.specs.Asked.{IsWanted, FaultAmong, FaultWanted, FaultOnWanted, includes_asked, registry_names}
 use Rattle.wf_setup.proofs.Stores.{rose_later}
 use Rattle.wf_setup.proofs.Steps.{include_asked}

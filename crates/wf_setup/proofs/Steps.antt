@@ -1,7 +1,7 @@
 -- The Registry of a store, one wanted file after another.
-use Rattle.std.proofs.Common.{◌≡◌, ◌∙◌, sym, ap, refl, subst, ℕ, zero, suc, ◌<◌, Bool, true, false, if◌then◌else◌, List, [], ◌∷◌, ◌++◌, length, Option, Some, None, Result, Ok, Err, IsTrue, Contains, arith}
+use Rattle.std.proofs.Common.{◌≡◌, ◌∙◌, sym, ap, refl, subst, ℕ, suc, Bool, true, false, if◌then◌else◌, List, [], ◌∷◌, ◌++◌, Option, Some, None, Result, Ok, Err, IsTrue, Contains, arith}
 use Rattle.std.specs.Option.{option_map, option_and_then}
-use Rattle.std.proofs.lemmas.List.Elements.{Contains-append_left, Contains-append_right}
+use Rattle.std.proofs.lemmas.List.Elements.{Contains-append_right}
 use Rattle.wf_model.specs.declared.registry.SourceFile.{SourceFile}
 use Rattle.wf_model.specs.declared.registry.Registry.{Registry}
 use Rattle.wf_model.specs.declared.registry.RegistryFault.{RegistryFault}
@@ -16,7 +16,7 @@ use Rattle.wf_setup.specs.declared.error.SetupError.{SetupError}
 use Rattle.wf_setup.specs.declared.error.SetupError.TheVariants as setup
 use Rattle.wf_setup.specs.declared.registry_files.Step.{Step}
 use Rattle.wf_setup.specs.declared.registry_files.Step.TheVariants.{Read, Wants}
-use Rattle.wf_setup.specs.Errors.{Tells, refusal_of, refusal_in}
+use Rattle.wf_setup.specs.Errors.{Tells, refusal_of}
 use Rattle.wf_setup.specs.Asked.{IsWanted, source_named, wanted_source, names_behind, names_wanted, names_after, includes_asked, registry_names}
 use Rattle.wf_setup.specs.Steps.{step_with, step_after, step_of}
 
@@ -121,7 +121,7 @@ names_first n m defines have name w =
     let again = includes_asked n m defines in
     let names : Result Registry RegistryFault → List Text = names_after again m have in
     let is : names (registry_of have defines) ≡ name ∷ names_behind again have (source_named m name) =
-        ap names w.refused ∙ ap (names_wanted again m have) w.wants ∙ taken again name (is_store_name name) (source_named m name) w.takes in
+    ap names w.refused ∙ ap (names_wanted again m have) w.wants ∙ taken again name (is_store_name name) (source_named m name) w.takes in
     subst (λ (ns : List Text). Contains ns name) (sym is) (0, omega arith, refl)
   where
     taken : (again : List SourceFile → List Text) (name : Text) (test : Bool) (o : Option SourceFile) → IsTrue test → (if test then name ∷ names_behind again have o else []) ≡ name ∷ names_behind again have o

@@ -1,6 +1,6 @@
 -- A store from which only was read.
-use Rattle.std.proofs.Common.{◌≡◌, ◌∙◌, refl, ap, ℕ, ◌≤◌, ◌<◌, Option, Some, None, Result, arith}
-use Rattle.wf_io.specs.Files.{Rose, Counted}
+use Rattle.std.proofs.Common.{◌≡◌, ◌∙◌, refl, ap, ℕ, ◌≤◌, ◌<◌, Option, Some, None, arith}
+use Rattle.wf_io.specs.Files.{Rose}
 use Rattle.wf_model.specs.Files.{Files}
 use Rattle.wf_model.specs.StoreRuns.{Told}
 use Rattle.wf_setup.specs.Asked.{OnlyRead}

@@ -1,5 +1,5 @@
 -- Words of a line, lent.
-use Rattle.std.specs.Prelude.{ℕ, List, [], ◌∷◌, map}
+use Rattle.std.specs.Prelude.{List, map}
 use Rattle.std.specs.Borrow.{Bor}
 use Rattle.wf_model.specs.Letters.{Text}
 

@@ -41,23 +41,26 @@ fn interval(alloc: Global, domain: u32, stream: u32) -> Result<Bytes, AllocError
 {
     let domain = number(alloc, domain)?;
     let stream = number(alloc, stream)?;
-    let words = [b"IntervalNotSteps".as_slice(), domain.as_bytes(), stream.as_bytes()];
+    let words = [
+        b"IntervalNotSteps".as_slice(),
+        domain.as_bytes(),
+        stream.as_bytes(),
+    ];
     line(alloc, b"plan", &words)
 }
 
 fn past_levels(alloc: Global, phase: &Bytes, field: &Bytes) -> Result<Bytes, AllocError>
     ensures { IfOk result (λ b. b ≡ line (codes "plan" ∷ codes "ReadPastLevels" ∷ phase.now ∷ field.now ∷ [])) }
 {
-    let words = [b"ReadPastLevels".as_slice(), phase.as_slice(), field.as_slice()];
+    let words = [
+        b"ReadPastLevels".as_slice(),
+        phase.as_slice(),
+        field.as_slice(),
+    ];
     line(alloc, b"plan", &words)
 }
 
-fn past_edge(
-    alloc: Global,
-    domain: u32,
-    phase: &Bytes,
-    field: &Bytes,
-) -> Result<Bytes, AllocError>
+fn past_edge(alloc: Global, domain: u32, phase: &Bytes, field: &Bytes) -> Result<Bytes, AllocError>
     ensures { IfOk result (λ b. b ≡ line (codes "plan" ∷ codes "ReadPastEdge" ∷ decimal domain ∷ phase.now ∷ field.now ∷ [])) }
 {
     let domain = number(alloc, domain)?;

@@ -8,7 +8,8 @@ use crate::error::{Refused, SetupError};
 use crate::line::{line, number};
 use std::alloc::{AllocError, Global};
 use wf_model::{
-    Bytes, ConfigFault, NamelistFault, NamelistKind, RegistryFault, RegistryKind, TableFault, TableKind,
+    Bytes, ConfigFault, NamelistFault, NamelistKind, RegistryFault, RegistryKind, TableFault,
+    TableKind,
 };
 
 fn registry_word(kind: &RegistryKind) -> &'static [u8]

@@ -20,7 +20,9 @@ const FIELDS: &str = "field a\nfield b\nread\n";
 
 /// The base namelist, with this as its line 7.
 fn namelist(alloc: Global, line: &str) -> Result<String, AllocError> {
-    format!(in alloc; "&time_control\n run_minutes = 1, start_year = 2000,\n history_interval = 1,\n/\n&domains\n time_step = 60, numtiles = 1,\n {line}\n/\n&bdy_control\n periodic_x = .false.,\n/\n")
+    format!(in alloc;
+        "&time_control\n run_minutes = 1, start_year = 2000,\n history_interval = 1,\n/\n&domains\n time_step = 60, numtiles = 1,\n {line}\n/\n&bdy_control\n periodic_x = .false.,\n/\n"
+    )
 }
 
 fn store_of(
@@ -53,7 +55,8 @@ fn base_case_is_read(rt: HostRuntime) -> Result<(), Fail> {
 
 #[test]
 fn lenient_namelist(rt: HostRuntime) -> Result<(), Fail> {
-    let line = "e_we = 2*4, ! west-east\n dx = 30000., e_sn = 4, e_vert = 2,\n/\n&physics mp_physics = 3 /\n&time_control io_form_history = 2";
+    let line =
+        "e_we = 2*4, ! west-east\n dx = 30000., e_sn = 4, e_vert = 2,\n/\n&physics mp_physics = 3 /\n&time_control io_form_history = 2";
     let left = check(rt.alloc(), REGISTRY, line, TABLE)?;
     assert_eq!(rt; left.status, 0);
     assert_eq!(rt; left.sink.bytes(), FIELDS.as_bytes());
@@ -62,9 +65,17 @@ fn lenient_namelist(rt: HostRuntime) -> Result<(), Fail> {
 
 #[test]
 fn empty_store(rt: HostRuntime) -> Result<(), Fail> {
-    let left = run(rt.alloc(), "check", MemStore::new(rt.alloc()), MemSink::new(rt.alloc()))?;
+    let left = run(
+        rt.alloc(),
+        "check",
+        MemStore::new(rt.alloc()),
+        MemSink::new(rt.alloc()),
+    )?;
     assert_eq!(rt; left.status, 2);
-    assert_eq!(rt; left.sink.bytes(), b"registry Registry 0 MissingFile\n".as_slice());
+    assert_eq!(rt;
+        left.sink.bytes(),
+        b"registry Registry 0 MissingFile\n".as_slice()
+    );
     Ok(())
 }
 
@@ -157,8 +168,11 @@ fn inactive_real_state(rt: HostRuntime) -> Result<(), Fail> {
 
 /// A Registry of three files: the first includes the second, and this the third.
 fn three_files(alloc: Global) -> Result<MemStore, AllocError> {
-    let dims = "dimspec i 1 standard_domain x west_east\ndimspec j 3 standard_domain y south_north\n";
-    let registry = format!(in alloc; "{dims}include registry.one\nstate integer a ij misc 1 - rh\n")?;
+    let dims =
+        "dimspec i 1 standard_domain x west_east\ndimspec j 3 standard_domain y south_north\n";
+    let registry = format!(in alloc;
+        "{dims}include registry.one\nstate integer a ij misc 1 - rh\n"
+    )?;
     let namelist = namelist(alloc, SIZES)?;
     let mut store = store_of(alloc, registry.as_str(), namelist.as_str(), "")?;
     store.place(
@@ -209,7 +223,8 @@ fn words_of_check(rt: HostRuntime) -> Result<(), Fail> {
         ("check more", 1, "usage: wrftool COMMAND [WORDS]\n"),
         ("check --memory", 1, "usage: wrftool COMMAND [WORDS]\n"),
     ];
-    let registry = "dimspec i 1 standard_domain x west_east\ndimspec j 3 standard_domain y south_north\nifdef X=1\nstate integer a ij misc 1 - rh\nendif\n";
+    let registry =
+        "dimspec i 1 standard_domain x west_east\ndimspec j 3 standard_domain y south_north\nifdef X=1\nstate integer a ij misc 1 - rh\nendif\n";
     for (words, status, wanted) in rows {
         let namelist = namelist(rt.alloc(), SIZES)?;
         let store = store_of(rt.alloc(), registry, namelist.as_str(), "")?;

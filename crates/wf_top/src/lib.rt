@@ -20,6 +20,5 @@ pub use top::tool_main;
 
 #[cfg(test)]
 mod check_tests;
-
 #[cfg(test)]
 mod tests;

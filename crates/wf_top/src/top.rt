@@ -75,12 +75,7 @@ fn end_demo<S: Store, O: Sink>(alloc: Global, demo: &Demo, store: &mut S, out: &
 }
 
 // Runs a command that is not `check`.
-fn end_other<S: Store, O: Sink>(
-    alloc: Global,
-    words: &[String],
-    store: &mut S,
-    out: &mut O,
-) -> u8
+fn end_other<S: Store, O: Sink>(alloc: Global, words: &[String], store: &mut S, out: &mut O) -> u8
     ensures { Ended (tool_answer (map string_bytes words.now)) (S.files store.old) (S.files store.new) (S.faults store.old) (S.faults store.new) (S.failed store.new)
         (λ status text. Said status text (O.taken out.old) (O.taken out.new) (O.faults out.old) (O.faults out.new) result) }
 {

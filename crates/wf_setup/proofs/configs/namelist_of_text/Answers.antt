@@ -1,4 +1,4 @@
-use Rattle.std.proofs.Common.{◌≡◌, ◌∙◌, sym, ap, ℕ, List, Some, Result, codes}
+use Rattle.std.proofs.Common.{◌∙◌, sym, ap, ℕ, List, Some, Result, codes}
 use Rattle.wf_model.specs.declared.namelist.Namelist.{Namelist}
 use Rattle.wf_model.specs.declared.namelist.NamelistFault.{NamelistFault}
 use Rattle.wf_model.specs.Reading.{told_as}

@@ -1,5 +1,4 @@
-use Rattle.std.proofs.Common.{◌≡◌, sym, ◌∙◌, Bool, true, false, refl}
-use Rattle.wf_model.specs.Letters.{is_store_name}
+use Rattle.std.proofs.Common.{sym, ◌∙◌}
 use Rattle.wf_setup.proofs.WantedFiles.{store_name_text}
 use Rattle.wf_setup.proofs.sources.store_name.Goals as goal
 
