@@ -1,4 +1,4 @@
--- What `check` answers until a plan is made of what it reads, and how it ends.
+-- What `check` answers until the halo check is made of the plan, and how it ends.
 use Rattle.std.specs.Prelude.{◌≡◌, ◌⊎◌, ℕ, Bool, true, false, List, [], ◌∷◌, ◌++◌, flat_map, Option, Some, Result, Ok, Err, Contains, codes}
 use Rattle.std.specs.Str.{bytes_eq}
 use Rattle.wf_io.specs.Files.{Told, Rose}

@@ -136,6 +136,41 @@ fn table_refusals(rt: HostRuntime) -> Result<(), Fail> {
 }
 
 #[test]
+fn plan_refusals(rt: HostRuntime) -> Result<(), Fail> {
+    let rows = [
+        (
+            "e_we = 4, e_sn = 4, max_dom = 2,",
+            "plan NotBuilt max_dom\n",
+        ),
+        (
+            "e_we = 4, e_sn = 4,\n/\n&time_control start_month = 2, start_day = 30",
+            "plan BadDate 1\n",
+        ),
+        ("e_we = 4, e_sn = 4, time_step = 7,", "plan RunNotSteps\n"),
+        (
+            "e_we = 4, e_sn = 4, time_step = 90,\n/\n&time_control run_minutes = 3",
+            "plan IntervalNotSteps 1 0\n",
+        ),
+    ];
+    for (line, wanted) in rows {
+        let left = check(rt.alloc(), REGISTRY, line, TABLE)?;
+        assert_eq!(rt; left.status, 4, "{line}");
+        assert_eq!(rt; left.sink.bytes(), wanted.as_bytes(), "{line}");
+    }
+    Ok(())
+}
+
+#[test]
+fn read_past_the_edge_is_refused(rt: HostRuntime) -> Result<(), Fail> {
+    let sizes = "e_we = 5, e_sn = 2, e_vert = 2,";
+    let phase = "phase q writes a = a[-1,0,0]\n";
+    let left = check(rt.alloc(), REGISTRY, sizes, phase)?;
+    assert_eq!(rt; left.status, 4);
+    assert_eq!(rt; left.sink.bytes(), b"plan ReadPastEdge 1 q a\n".as_slice());
+    Ok(())
+}
+
+#[test]
 fn missing_files(rt: HostRuntime) -> Result<(), Fail> {
     let mut store = MemStore::new(rt.alloc());
     store.place("Registry", REGISTRY.as_bytes())?;

@@ -92,13 +92,15 @@ fn end_other<S: Store, O: Sink>(alloc: Global, words: &[String], store: &mut S, 
 ///   0 to 100, on PX column patches, from 1 to 256, and written frame by frame to the file `wrfout_d01_2000-01-01_00:00:00`
 ///   of the store.
 /// - `check [--define LIST]`: the files `Registry`, with the includes that it wants, `namelist.input` and `stencil.table` of
-///   the store are read and judged, with the names of LIST, `NAME=VALUE,NAME=VALUE`, defined for the Registry's ifdefs.
+///   the store are read and judged, with the names of LIST, `NAME=VALUE,NAME=VALUE`, defined for the Registry's ifdefs, and
+///   the plan that they ask for is tested.
 ///
 /// The statuses are this project's own:
 /// - 0: of `demo`, the files are written; the text is the summary, and a line on each patch's memory or one on all. Of
 ///   `check`, nothing is refused; the text is a line `field NAME` for each active field level, and `read`.
 /// - 1: the words are no command; the text is the usage line.
-/// - 2, 3, 4: the Registry, the namelist or the config, the table is refused; the text says what is wrong and where.
+/// - 2, 3, 4: the Registry, the namelist or the config, the table or the plan is refused; the text says what is wrong and
+///   where.
 /// - 7: there are more patches than columns; the text says so.
 /// - 9: a call of the store failed, which the store counted; no call followed it. The text names the file.
 /// - 10: want of memory.
