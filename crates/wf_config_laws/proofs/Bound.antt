@@ -1,5 +1,5 @@
 -- The values of a built-in name of whole numbers in a bound config: each one that counts is allowed.
-use Rattle.std.proofs.Common.{◌≡◌, ◌⊎◌, inl, inr, ⊎_elim, ℕ, zero, suc, ◌+◌, ◌-◌, ◌<◌, ◌≤◌, Bool, true, false, cond, not, ◌&&◌, ◌||◌, List, [], ◌∷◌, ◌++◌, map, length, Option, Some, None, Result, Ok, Err, find, filter, filter_map, option_map, ℤ, pos, negsuc, if◌then◌else◌, refl, sym, ap, subst, ◌∙◌, arith}
+use Rattle.std.proofs.Common.{◌≡◌, ◌⊎◌, inl, inr, ⊎_elim, ℕ, zero, suc, ◌+◌, ◌-◌, ◌<◌, ◌≤◌, nat_lt, Bool, true, false, cond, not, ◌&&◌, ◌||◌, List, [], ◌∷◌, ◌++◌, map, length, Option, Some, None, Result, Ok, Err, find, filter, filter_map, option_map, ℤ, pos, negsuc, if◌then◌else◌, refl, sym, ap, subst, ◌∙◌, arith}
 use Rattle.std.specs.Prelude.{slice_get, int_le, unsigned_abs, unwrap_or}
 use Rattle.std.specs.List.{enumerate_from, list_all, list_any, range_with_len}
 use Rattle.std.specs.Option.{option_or}
@@ -72,7 +72,7 @@ pub record Keeps (b r : NameRule) : Type 0 where
   pub each : r.each ≡ b.each
   pub allowed : r.allowed ≡ b.allowed
 
-kept : (o : Option NameRule) (b : NameRule) → Keeps b (with_default o b)
+pub kept : (o : Option NameRule) (b : NameRule) → Keeps b (with_default o b)
 kept None b = record { name = refl; group = refl; type = refl; each = refl; allowed = refl }
 kept (Some q) b = record { name = refl; group = refl; type = refl; each = refl; allowed = refl }
 
@@ -127,13 +127,13 @@ not_both true false c is e = cc
 not_both false b c is e = cc
 
 module _ (registry : Registry) (items : List Item) (passed : Passed registry items) (name : Text) (each : Bool) (allowed : ℤ → Bool) (row : Row name each allowed) where
-  abbrev rules : List NameRule
+  abbrev pub rules : List NameRule
   rules = rules_of registry
 
-  abbrev domains : ℕ
+  abbrev pub domains : ℕ
   domains = domain_count rules items
 
-  abbrev declared : Option NameRule
+  abbrev pub declared : Option NameRule
   declared = rule_named (registry_rules registry) row.rule.name
 
   -- the rule of the name
@@ -190,3 +190,135 @@ module _ (registry : Registry) (items : List Item) (passed : Passed registry ite
   -- what the namelist gives
   abbrev pub vs : List Value
   vs = given items r.group r.name
+
+  item_named : (i : Item) → (bytes_eq i.0 r.group && bytes_eq i.1 r.name) ≡ true → i.1 ≡ name
+  item_named i e = (bytes_eq-Decides i.1 r.name).0 (both_hold (bytes_eq i.0 r.group) (bytes_eq i.1 r.name) e).1 ∙ r_named
+
+  -- the tests of an item of this name
+  item_tests : (i : Item) → i.1 ≡ name → item_fault rules (max_dom rules items) i ≡ None → (list_all (is_of r.type) i.2 ≡ true) × (range_fault (max_dom rules items) r i.2 ≡ None)
+  item_tests i is e =
+      let tests = sym (ap (rule_fault (max_dom rules items) i) (ap (rule_named rules) is ∙ is_rule)) ∙ e in
+      let behind_group = (neither (fault_if (not (bytes_eq r.group i.0)) (UnknownItem i.1)) _ tests).1 in
+      let types = neither (fault_if (not (list_all (is_of r.type) i.2)) (WrongType i.1)) _ behind_group in
+      let behind_count = (neither (fault_if (nat_lt r.most (length i.2)) (TooMany i.1)) _ types.1).1 in
+      (holds (list_all (is_of r.type) i.2) (passed_if _ _ types.0), (neither (range_fault (max_dom rules items) r i.2) None behind_count).0)
+    where
+      holds : (b : Bool) → not b ≡ false → b ≡ true
+      holds true e = refl
+      holds false e = cc
+
+  -- a given value of a domain that there is
+  pub given_good : (k : ℕ) (v : Value) → slice_get vs k ≡ Some v → (r.each ≡ true → k < domains) → IsGood r v
+  given_good k v at within = of_item (find (λ (i : Item). bytes_eq i.0 r.group && bytes_eq i.1 r.name) items) refl at
+    where
+      of_item : (o : Option Item) → find (λ (i : Item). bytes_eq i.0 r.group && bytes_eq i.1 r.name) items ≡ o → slice_get (unwrap_or (option_map (λ (i : Item). i.2) o) []) k ≡ Some v → IsGood r v
+      of_item None is at = absurd (none v at)
+      of_item (Some i) is at =
+          let passes = find_passes (λ (i : Item). bytes_eq i.0 r.group && bytes_eq i.1 r.name) items i is in
+          let test = passed_found (item_fault rules (max_dom rules items)) (λ (i : Item). bytes_eq i.0 r.group && bytes_eq i.1 r.name) items i passed.items_pass is in
+          let tests = item_tests i (item_named i passes) test in
+          let judged = judged_of r.each (int_le (pos (1 + k)) (max_dom rules items)) (λ e. counted (max_dom rules items) k (within e)) in
+          record {
+            type = all_at (is_of r.type) i.2 k v tests.0 at;
+            range = passed_judged (λ (p : ℕ × Value). out_of_range r p.1) (is_judged (max_dom rules items) r) 1 k (1 + k) i.2 v tests.1 at refl judged;
+          }
+
+  -- how many values the name has at least
+  abbrev pub wanted : ℕ
+  wanted = if r.each then domains else 1
+
+  wanted_one : (b : Bool) → b ≡ false → 0 < (if b then domains else 1)
+  wanted_one true e = cc
+  wanted_one false e = omega arith
+
+  wanted_each : (b : Bool) (k : ℕ) → b ≡ true → k < domains → k < (if b then domains else 1)
+  wanted_each true k e h = h
+  wanted_each false k e h = cc
+
+  -- one, or one for each domain
+  pub one : each ≡ false → 0 < wanted
+  one e = wanted_one r.each (r_each ∙ e)
+
+  pub of_domain : (k : ℕ) → each ≡ true → k < domains → k < wanted
+  of_domain k e h = wanted_each r.each k (r_each ∙ e) h
+
+  some_wanted : (b : Bool) (k : ℕ) → k < (if b then domains else 1) → b ≡ true → 0 < domains
+  some_wanted true k h e = omega (arith, h)
+  some_wanted false k h e = cc
+
+  missing_type : (us : List Value) (d : ℕ) → ((v : Value) → slice_get us 0 ≡ Some v → is_of r.type v ≡ true) → is_of r.type (missing_value r us d) ≡ true
+  missing_type [] d first = default_whole d
+  missing_type (u ∷ us) d first = either (is_start_name r.name && r.each)
+    where
+      either : (b : Bool) → is_of r.type (if b then u else r.default d) ≡ true
+      either true = first u refl
+      either false = default_whole d
+
+  -- a value that isn't given
+  missing_good : (j : ℕ) → j < wanted - length vs → IsGood r (missing_value r vs (length vs + 1 + j))
+  missing_good j h = record {
+    type = missing_type vs (length vs + 1 + j) (λ v at. (given_good 0 v at (some_wanted r.each 0 (omega (arith, h)))).type);
+    range = passed_at (out_of_range r) (missing_values domains r vs) j (missing_value r vs (length vs + 1 + j))
+        (passed_found (default_fault domains items) (has_rule_name name) rules r passed.defaults_pass is_rule)
+        (made_at (missing_value r vs) (length vs + 1) (wanted - length vs) j h);
+  }
+
+  pub record GoodAt (k : ℕ) : Type 0 where
+    pub v : Value
+    pub at : slice_get (vs ++ missing_values domains r vs) k ≡ Some v
+    pub good : IsGood r v
+
+  counted_given : (b : Bool) (k : ℕ) → k < (if b then domains else 1) → b ≡ true → k < domains
+  counted_given true k h e = h
+  counted_given false k h e = cc
+
+  -- each value that counts
+  pub good_at : (k : ℕ) → k < wanted → GoodAt k
+  good_at k h =
+      ⊎_elim
+      (λ here. record { v = here.0; at = at_front vs (missing_values domains r vs) k here.0 here.2; good = given_good k here.0 here.2 (counted_given r.each k h) })
+      (λ past. record {
+        v = missing_value r vs (length vs + 1 + (k - length vs));
+        at = behind_front vs (missing_values domains r vs) k past.0 ∙ made_at (missing_value r vs) (length vs + 1) (wanted - length vs) (k - length vs) (omega (arith, h, past.0));
+        good = missing_good (k - length vs) (omega (arith, h, past.0));
+      })
+      (slice_get_cases vs k).1
+
+  -- they are the config's
+  pub values_are : values_of (bound_values registry items) name ≡ vs ++ missing_values domains r vs
+  values_are =
+      ap (λ (o : Option (Text × List Value)). unwrap_or (option_map (λ (p : Text × List Value). p.1) o) [])
+      (find_map (λ (p : Text × List Value). bytes_eq p.0 name) (filled domains items) rules ∙ ap (option_map (filled domains items)) is_rule)
+
+  pub record NumberAt (k : ℕ) : Type 0 where
+    pub m : ℤ
+    pub at : slice_get (values_of (bound_values registry items) name) k ≡ Some (value.Int m)
+    pub fits : fits_bits 32 m ≡ true
+    pub is_allowed : allowed m ≡ true
+
+  number_of : (type : ValueType) (allows : ℤ → Bool) (text : Text) (v : Value) → type ≡ an_integer → is_of type v ≡ true
+      → ((m : ℤ) → v ≡ value.Int m → fault_if (same_type type an_integer && not (fits_bits 32 m && allows m)) (OutOfRange text m) ≡ None)
+      → (m : ℤ) × (v ≡ value.Int m) × (fits_bits 32 m ≡ true) × (allows m ≡ true)
+  number_of type allows text v is e test = by_value v (ap (λ t. is_of t v) (sym is) ∙ e) test
+    where
+      both : (a b c : Bool) → a ≡ true → (a && not (b && c)) ≡ false → (b ≡ true) × (c ≡ true)
+      both true true true is e = (refl, refl)
+      both true true false is e = cc
+      both true false c is e = cc
+      both false b c is e = cc
+      by_value : (v : Value) → is_of an_integer v ≡ true
+          → ((m : ℤ) → v ≡ value.Int m → fault_if (same_type type an_integer && not (fits_bits 32 m && allows m)) (OutOfRange text m) ≡ None)
+          → (m : ℤ) × (v ≡ value.Int m) × (fits_bits 32 m ≡ true) × (allows m ≡ true)
+      by_value (value.Int m) e test =
+          let two = both (same_type type an_integer) (fits_bits 32 m) (allows m) (ap (λ t. same_type t an_integer) is) (passed_if _ _ (test m refl)) in
+          (m, refl, two.0, two.1)
+      by_value (value.Decimal w) e test = cc
+      by_value (value.Logical b) e test = cc
+      by_value (value.Text t) e test = cc
+
+  -- so each of them is a number that the name allows
+  pub number_at : (k : ℕ) → k < wanted → NumberAt k
+  number_at k h =
+      let here = good_at k h in
+      let n = number_of r.type r.allowed r.name here.v r_type here.good.type (λ m is. ap (out_of_range r) (sym is) ∙ here.good.range) in
+      record { m = n.0; at = ap (λ (us : List Value). slice_get us k) values_are ∙ here.at ∙ ap (λ v. Some v) n.1; fits = n.2; is_allowed = ap (λ (f : ℤ → Bool). f n.0) (sym r_allows) ∙ n.3 }

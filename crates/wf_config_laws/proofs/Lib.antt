@@ -1,2 +1,4 @@
 pub mod Passed
 pub mod Bound
+pub mod Rows
+pub mod Values
