@@ -143,3 +143,17 @@ pub behind_front : {A : Type 0} (xs ys : List A) (k : ℕ) → length xs ≤ k �
 behind_front [] ys k h = ap (slice_get ys) (omega arith)
 behind_front (y ∷ xs) ys zero h = absurd (omega (arith, h))
 behind_front (y ∷ xs) ys (suc k) h = behind_front xs ys k (omega (arith, h)) ∙ ap (slice_get ys) (omega arith)
+
+-- ---- tests of numbers
+
+pub at_range : (a n k : ℕ) → k < n → slice_get (range_with_len a n) k ≡ Some (a + k)
+at_range a zero k h = absurd (omega (arith, h))
+at_range a (suc n) zero h = ap (λ m. Some m) (omega arith)
+at_range a (suc n) (suc k) h = at_range (a + 1) n k (omega (arith, h)) ∙ ap (λ m. Some m) (omega arith)
+
+-- the test of an item that is kept
+pub passed_kept : {A F : Type 0} (f : A → Option F) (p : A → Bool) (xs : List A) (k : ℕ) (x : A)
+    → first_fault (map f (filter p xs)) ≡ None → slice_get xs k ≡ Some x → p x ≡ true → f x ≡ None
+passed_kept f p [] k x e at keep = absurd (none x at)
+passed_kept f p (y ∷ xs) zero x e at keep = ap f (sym (same y x at)) ∙ kept_first f (p y) y (filter p xs) (ap p (same y x at) ∙ keep) e
+passed_kept f p (y ∷ xs) (suc k) x e at keep = passed_kept f p xs k x (kept_later f (p y) y (filter p xs) e) at keep

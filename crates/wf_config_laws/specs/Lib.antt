@@ -1,1 +1,2 @@
 pub mod RangedValues
+pub mod SoundDomains

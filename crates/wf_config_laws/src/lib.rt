@@ -9,3 +9,7 @@ ghost use Rattle.wf_config_laws.specs.RangedValues.{BoundValuesAreInRange};
 pub fn bound_values_are_in_range()
     ensures { BoundValuesAreInRange }
 {}
+
+pub fn scratch() -> u8
+    ensures { result ≡ 3 }
+{ 3 }
