@@ -1,8 +1,7 @@
 -- The values of a built-in name of whole numbers in a bound config: each one that counts is allowed.
-use Rattle.std.proofs.Common.{◌≡◌, ◌⊎◌, inl, inr, ⊎_elim, ℕ, zero, suc, ◌+◌, ◌-◌, ◌<◌, ◌≤◌, nat_lt, Bool, true, false, cond, not, ◌&&◌, ◌||◌, List, [], ◌∷◌, ◌++◌, map, length, Option, Some, None, Result, Ok, Err, find, filter, filter_map, option_map, ℤ, pos, negsuc, if◌then◌else◌, refl, sym, ap, subst, ◌∙◌, arith}
+use Rattle.std.proofs.Common.{◌≡◌, ⊎_elim, ℕ, ◌+◌, ◌-◌, ◌<◌, nat_lt, Bool, true, false, cond, not, ◌&&◌, ◌||◌, List, [], ◌∷◌, ◌++◌, map, length, Option, Some, None, Ok, find, filter, option_map, ℤ, pos, negsuc, if◌then◌else◌, refl, sym, ap, subst, ◌∙◌, arith}
 use Rattle.std.specs.Prelude.{slice_get, int_le, unsigned_abs, unwrap_or}
-use Rattle.std.specs.List.{enumerate_from, list_all, list_any, range_with_len}
-use Rattle.std.specs.Option.{option_or}
+use Rattle.std.specs.List.{list_all, list_any}
 use Rattle.std.specs.Str.{bytes_eq}
 use Rattle.std.proofs.lemmas.Slice.Eq.{bytes_eq-Decides}
 use Rattle.std.proofs.lemmas.Option.{slice_get_cases}
@@ -13,7 +12,6 @@ use Rattle.wf_model.specs.declared.registry.Registry.{Registry}
 use Rattle.wf_model.specs.declared.registry.Entry.{Entry}
 use Rattle.wf_model.specs.declared.registry.Entry.TheVariants as entry
 use Rattle.wf_model.specs.declared.config.Config.{Config}
-use Rattle.wf_model.specs.declared.config.ConfigFault.{ConfigFault}
 use Rattle.wf_model.specs.declared.config.ConfigFault.TheVariants.{WrongType, UnknownItem, TooMany, OutOfRange}
 use Rattle.wf_model.specs.Reading.{fault_if, first_fault, unless_fault}
 use Rattle.wf_model.specs.Letters.{Text, is_dash}

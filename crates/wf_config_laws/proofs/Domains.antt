@@ -1,14 +1,16 @@
 -- The domains of a plan, by number: each is made of those before it.
-use Rattle.std.proofs.Common.{◌≡◌, ⊎_elim, ℕ, zero, suc, ◌+◌, ◌-◌, ◌<◌, ◌≤◌, List, [], ◌∷◌, ◌++◌, length, get_or, refl, sym, ap, ◌∙◌, arith, slice_index_or}
+use Rattle.std.proofs.Common.{◌≡◌, ⊎_elim, ℕ, zero, suc, ◌+◌, ◌-◌, ◌/◌, ◌<◌, ◌≤◌, List, [], ◌∷◌, ◌++◌, length, get_or, refl, sym, ap, ◌∙◌, arith, codes, slice_index_or}
 use Rattle.std.proofs.lemmas.Bool.{cases_lt}
 use Rattle.std.proofs.Math.Seq.{get_or-append_seam}
 use Rattle.std.proofs.lemmas.List.{get_or_append_left, length-append}
 use Rattle.wf_model.specs.declared.config.Config.{Config}
 use Rattle.wf_model.specs.declared.plan.Domain.{Domain}
 use Rattle.wf_model.specs.declared.plan.Item.{Item}
+use Rattle.wf_model.specs.declared.plan.Plan.{Plan}
+use Rattle.wf_model.specs.Calendar.{text_of}
 use Rattle.wf_model.specs.declared.table.HookName.{HookName}
 use Rattle.wf_model.specs.Plans.{domain_of, no_domain}
-use Rattle.wf_model.specs.PlanDomains.{domain_from, domains_to, domain_total}
+use Rattle.wf_model.specs.PlanDomains.{amount, domain_from, domains_to, domain_total, run_seconds, start_moment}
 use Rattle.wf_model.specs.PlanOf.{plan_from}
 
 pub length_to : (config : Config) (n : ℕ) → length (domains_to config n) ≡ n
@@ -38,3 +40,22 @@ domain_is config hooks items d from upto =
 pub count_is : (config : Config) (hooks : List HookName) (items : List Item) → length (plan_from config hooks items).domains ≡ domain_total config
 unfolding plan_from
 count_is config hooks items = length_to config (domain_total config)
+
+-- a domain by its place
+pub by_place : (plan : Plan) (i : ℕ) → domain_of plan (i + 1) ≡ get_or plan.domains i no_domain
+unfolding domain_of
+by_place plan i = ap (λ k. get_or plan.domains k no_domain) (omega arith)
+
+-- ---- what else the plan has of the config
+
+pub start_is : (config : Config) (hooks : List HookName) (items : List Item) → (plan_from config hooks items).start ≡ text_of (start_moment config 1)
+unfolding plan_from
+start_is config hooks items = refl
+
+pub steps_are : (config : Config) (hooks : List HookName) (items : List Item) → (plan_from config hooks items).steps ≡ run_seconds config / amount config (codes "time_step") 1
+unfolding plan_from
+steps_are config hooks items = refl
+
+pub width_is : (config : Config) (hooks : List HookName) (items : List Item) → (plan_from config hooks items).bdy_width ≡ amount config (codes "spec_bdy_width") 1
+unfolding plan_from
+width_is config hooks items = refl

@@ -5,3 +5,5 @@ pub mod Values
 pub mod Facts
 pub mod Domains
 pub mod Times
+pub mod Tests
+pub mod SoundDomains

@@ -1,5 +1,5 @@
 -- The rows of the table of built-in names that have a range.
-use Rattle.std.proofs.Common.{◌≡◌, ℕ, Bool, true, false, List, Some, ℤ, refl, codes, if◌then◌else◌}
+use Rattle.std.proofs.Common.{◌≡◌, ℕ, Bool, true, false, Some, ℤ, refl, codes, if◌then◌else◌}
 use Rattle.wf_model.specs.declared.namelist.Value.{Value}
 use Rattle.wf_model.specs.Letters.{Text}
 use Rattle.wf_model.specs.BuiltIns.{an_integer, NameRule, most_values, built_in, built_ins, to, int, minus_one, minus_one_or, time_control, in_domains, bdy_control, namelist_quilt}
@@ -154,6 +154,18 @@ pub frames_per_auxhist9 : Row (codes "frames_per_auxhist9") true (to 1 100000)
 unfolding built_ins
 frames_per_auxhist9 = whole_row (codes "frames_per_auxhist9") time_control true (int 1) (to 1 100000) refl (λ d. refl)
 
+pub s_we : Row (codes "s_we") true (to 1 1)
+unfolding built_ins
+s_we = whole_row (codes "s_we") in_domains true (int 1) (to 1 1) refl (λ d. refl)
+
+pub s_sn : Row (codes "s_sn") true (to 1 1)
+unfolding built_ins
+s_sn = whole_row (codes "s_sn") in_domains true (int 1) (to 1 1) refl (λ d. refl)
+
+pub s_vert : Row (codes "s_vert") true (to 1 1)
+unfolding built_ins
+s_vert = whole_row (codes "s_vert") in_domains true (int 1) (to 1 1) refl (λ d. refl)
+
 -- ---- one value for all domains
 
 pub run_days : Row (codes "run_days") false (to 0 100000)
@@ -207,6 +219,30 @@ nio_groups = whole_row (codes "nio_groups") namelist_quilt false (int 1) (to 1 1
 pub quilt_depth : Row (codes "quilt_depth") false (to 1 64)
 unfolding built_ins
 quilt_depth = whole_row (codes "quilt_depth") namelist_quilt false (int 8) (to 1 64) refl (λ d. refl)
+
+pub smooth_option : Row (codes "smooth_option") false (to 0 0)
+unfolding built_ins
+smooth_option = whole_row (codes "smooth_option") in_domains false (int 0) (to 0 0) refl (λ d. refl)
+
+pub time_step_fract_num : Row (codes "time_step_fract_num") false (to 0 0)
+unfolding built_ins
+time_step_fract_num = whole_row (codes "time_step_fract_num") in_domains false (int 0) (to 0 0) refl (λ d. refl)
+
+pub io_form_history : Row (codes "io_form_history") false (to 2 2)
+unfolding built_ins
+io_form_history = whole_row (codes "io_form_history") time_control false (int 2) (to 2 2) refl (λ d. refl)
+
+pub io_form_restart : Row (codes "io_form_restart") false (to 2 2)
+unfolding built_ins
+io_form_restart = whole_row (codes "io_form_restart") time_control false (int 2) (to 2 2) refl (λ d. refl)
+
+pub io_form_input : Row (codes "io_form_input") false (to 2 2)
+unfolding built_ins
+io_form_input = whole_row (codes "io_form_input") time_control false (int 2) (to 2 2) refl (λ d. refl)
+
+pub io_form_boundary : Row (codes "io_form_boundary") false (to 2 2)
+unfolding built_ins
+io_form_boundary = whole_row (codes "io_form_boundary") time_control false (int 2) (to 2 2) refl (λ d. refl)
 
 pub nproc_x : Row (codes "nproc_x") false (minus_one_or (to 1 2000))
 unfolding built_ins

@@ -1,5 +1,5 @@
 -- The numbers of a bound config are in their ranges.
-use Rattle.std.proofs.Common.{◌≡◌, ◌⊎◌, inl, inr, ⊎_elim, ℕ, ◌+◌, ◌-◌, ◌<◌, ◌≤◌, Bool, true, false, cond, ◌&&◌, ◌||◌, List, [], ◌∷◌, ◌++◌, map, length, Option, Some, None, Ok, ℤ, pos, negsuc, if◌then◌else◌, refl, sym, ap, ap₂, subst, ◌∙◌, arith, codes}
+use Rattle.std.proofs.Common.{◌≡◌, ◌⊎◌, inl, inr, ⊎_elim, ℕ, ◌-◌, ◌<◌, ◌≤◌, true, false, List, [], ◌∷◌, ◌++◌, map, Some, None, Ok, ℤ, pos, negsuc, if◌then◌else◌, refl, sym, ap, ap₂, subst, ◌∙◌, arith, codes}
 use Rattle.std.specs.Prelude.{slice_get, int_le, unsigned_abs, unwrap_or}
 use Rattle.std.specs.List.{All, range_with_len}
 use Rattle.std.proofs.lemmas.List.Elements.{All-from_recursion}
@@ -15,7 +15,7 @@ use Rattle.wf_model.specs.Namelist.{Item}
 use Rattle.wf_model.specs.BuiltIns.{NameRule, to, minus_one_or, in_domains}
 use Rattle.wf_model.specs.Config.{config_of, known_items, rules_of, given, missing_value, missing_values, values_of, first_int, if_in_i32, default_max_dom, max_dom, domain_count}
 use Rattle.wf_model.specs.Ranges.{Within}
-use Rattle.wf_model.specs.PlanDomains.{integer, amount, int_of, domain_total, interval_names, frames_names}
+use Rattle.wf_model.specs.PlanDomains.{integer, int_of, domain_total, interval_names, frames_names}
 use Rattle.wf_config_laws.specs.RangedValues.{HasNumber, HasOwnValues, HasDomainValues, HasRangedValues}
 use Rattle.wf_config_laws.proofs.Passed.{same}
 use Rattle.wf_config_laws.proofs.Bound as bound
@@ -151,6 +151,12 @@ module _ (registry : Registry) (items : List Item) (passed : Passed registry ite
     nio_tasks_per_group = own_number row.nio_tasks_per_group;
     nio_groups = own_number row.nio_groups;
     quilt_depth = own_number row.quilt_depth;
+    smooth_option = own_number row.smooth_option;
+    time_step_fract_num = own_number row.time_step_fract_num;
+    io_form_history = own_number row.io_form_history;
+    io_form_restart = own_number row.io_form_restart;
+    io_form_input = own_number row.io_form_input;
+    io_form_boundary = own_number row.io_form_boundary;
     nproc_x = open_number row.nproc_x;
     nproc_y = open_number row.nproc_y;
   }
@@ -172,6 +178,9 @@ module _ (registry : Registry) (items : List Item) (passed : Passed registry ite
         j_parent_start = domain_number row.j_parent_start d from upto;
         parent_grid_ratio = domain_number row.parent_grid_ratio d from upto;
         parent_time_step_ratio = domain_number row.parent_time_step_ratio d from upto;
+        s_we = domain_number row.s_we d from upto;
+        s_sn = domain_number row.s_sn d from upto;
+        s_vert = domain_number row.s_vert d from upto;
         intervals = ten_intervals d from upto;
         frames = ten_frames d from upto;
       }

@@ -1,5 +1,5 @@
 -- The values of the built-in names are in their ranges.
-use Rattle.std.specs.Prelude.{◌≡◌, ℕ, ◌≤◌, ◌⊎◌, List, [], ◌∷◌, ◌++◌, ℤ, pos, negsuc, Ok, codes}
+use Rattle.std.specs.Prelude.{◌≡◌, ℕ, ◌≤◌, ◌⊎◌, pos, negsuc, Ok, codes}
 use Rattle.std.specs.List.{All}
 use Rattle.wf_model.specs.declared.config.Config.{Config}
 use Rattle.wf_model.specs.declared.registry.Registry.{Registry}
@@ -15,7 +15,7 @@ pub record HasNumber (config : Config) (d low high : ℕ) (name : Text) : Type 0
   pub number : integer config name d ≡ pos (amount config name d)
   pub within : Within low high (amount config name d)
 
--- the values that each domain has of its own
+-- the values that each domain has of its own: the numbers of names with a value for each domain
 pub record HasDomainValues (config : Config) (d : ℕ) : Type 0 where
   pub start_year : HasNumber config d 1 9999 (codes "start_year")
   pub start_month : HasNumber config d 1 12 (codes "start_month")
@@ -31,11 +31,14 @@ pub record HasDomainValues (config : Config) (d : ℕ) : Type 0 where
   pub j_parent_start : HasNumber config d 1 2000 (codes "j_parent_start")
   pub parent_grid_ratio : HasNumber config d 1 15 (codes "parent_grid_ratio")
   pub parent_time_step_ratio : HasNumber config d 1 16 (codes "parent_time_step_ratio")
+  pub s_we : HasNumber config d 1 1 (codes "s_we")
+  pub s_sn : HasNumber config d 1 1 (codes "s_sn")
+  pub s_vert : HasNumber config d 1 1 (codes "s_vert")
   -- of the ten streams, in minutes
   pub intervals : All (HasNumber config d 0 100000) interval_names
   pub frames : All (HasNumber config d 1 100000) frames_names
 
--- what counts for all domains alike
+-- the numbers of names with one value for all domains
 pub record HasOwnValues (config : Config) : Type 0 where
   pub run_days : HasNumber config 1 0 100000 (codes "run_days")
   pub run_hours : HasNumber config 1 0 100000 (codes "run_hours")
@@ -50,6 +53,13 @@ pub record HasOwnValues (config : Config) : Type 0 where
   pub nio_tasks_per_group : HasNumber config 1 0 16 (codes "nio_tasks_per_group")
   pub nio_groups : HasNumber config 1 1 16 (codes "nio_groups")
   pub quilt_depth : HasNumber config 1 1 64 (codes "quilt_depth")
+  -- one value is built
+  pub smooth_option : HasNumber config 1 0 0 (codes "smooth_option")
+  pub time_step_fract_num : HasNumber config 1 0 0 (codes "time_step_fract_num")
+  pub io_form_history : HasNumber config 1 2 2 (codes "io_form_history")
+  pub io_form_restart : HasNumber config 1 2 2 (codes "io_form_restart")
+  pub io_form_input : HasNumber config 1 2 2 (codes "io_form_input")
+  pub io_form_boundary : HasNumber config 1 2 2 (codes "io_form_boundary")
   -- -1 leaves the number open
   pub nproc_x : (integer config (codes "nproc_x") 1 ≡ negsuc 0) ⊎ HasNumber config 1 1 2000 (codes "nproc_x")
   pub nproc_y : (integer config (codes "nproc_y") 1 ≡ negsuc 0) ⊎ HasNumber config 1 1 2000 (codes "nproc_y")
