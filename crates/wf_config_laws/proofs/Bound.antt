@@ -13,13 +13,13 @@ use Rattle.wf_model.specs.declared.registry.Entry.{Entry}
 use Rattle.wf_model.specs.declared.registry.Entry.TheVariants as entry
 use Rattle.wf_model.specs.declared.config.Config.{Config}
 use Rattle.wf_model.specs.declared.config.ConfigFault.TheVariants.{WrongType, UnknownItem, TooMany, OutOfRange}
-use Rattle.wf_model.specs.Reading.{fault_if, first_fault, unless_fault}
+use Rattle.wf_model.specs.Reading.{fault_if, first_fault}
 use Rattle.wf_model.specs.Letters.{Text, is_dash}
 use Rattle.wf_model.specs.ValueForms.{fits_bits, is_whole, whole_value}
 use Rattle.wf_model.specs.Namelist.{Item}
 use Rattle.wf_model.specs.BuiltIns.{ValueType, an_integer, a_real, a_logical, a_character, NameRule, built_in, built_ins, is_built_in}
 use Rattle.wf_model.specs.Config.{config_of, config_from, config_fault, rules_of, registry_rules, rconfig_rule, rule_named, has_rule_name, with_default, known_items, given, is_of, out_of_range, is_judged, range_fault, rule_fault, item_fault, default_fault, wrong_rule, float_fault, same_type, type_of, default_of, filled, missing_value, missing_values, is_start_name, values_of, max_dom, domain_count, Values}
-use Rattle.wf_config_laws.proofs.Passed.{none, same, neither, both_passed, passed_if, passed_at, passed_found, passed_judged, find_passes, any_not, all_at, both_hold, found_made, find_map, find_front, made_at, at_front, behind_front}
+use Rattle.wf_config_laws.proofs.Passed.{given_up, none, same, neither, both_passed, passed_if, passed_at, passed_found, passed_judged, find_passes, any_not, all_at, both_hold, found_made, find_map, find_front, made_at, at_front, behind_front}
 
 -- ---- no test of the config failed
 
@@ -30,10 +30,6 @@ pub record Passed (registry : Registry) (items : List Item) : Type 0 where
 
 abbrev pub bound_values : Registry → List Item → Values
 bound_values registry items = map (filled (domain_count (rules_of registry) items) items) (rules_of registry)
-
-given_up : {A F : Type 0} (o : Option F) (a b : A) → unless_fault o a ≡ Ok b → (o ≡ None) × (a ≡ b)
-given_up None a b e = (refl, cc)
-given_up (Some f) a b e = cc
 
 pub passed : (registry : Registry) (namelist : Namelist) (config : Config) → config_of registry namelist ≡ Ok config
     → Passed registry (known_items (rules_of registry) namelist) × (config ≡ config_from registry (bound_values registry (known_items (rules_of registry) namelist)))
@@ -304,6 +300,7 @@ module _ (registry : Registry) (items : List Item) (passed : Passed registry ite
       both true true false is e = cc
       both true false c is e = cc
       both false b c is e = cc
+
       by_value : (v : Value) → is_of an_integer v ≡ true
           → ((m : ℤ) → v ≡ value.Int m → fault_if (same_type type an_integer && not (fits_bits 32 m && allows m)) (OutOfRange text m) ≡ None)
           → (m : ℤ) × (v ≡ value.Int m) × (fits_bits 32 m ≡ true) × (allows m ≡ true)

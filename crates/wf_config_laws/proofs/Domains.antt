@@ -26,9 +26,9 @@ domain_at config (suc n) k d h =
     ⊎_elim
     (λ less. get_or_append_left (domains_to config n) (last ∷ []) d k (omega (arith, less, length_to config n)) ∙ domain_at config n k d less)
     (λ more.
-      let same : k ≡ n = omega (arith, h, more) in
-      ap (λ m. get_or (domains_to config n ++ last ∷ []) m d) (same ∙ sym (length_to config n)) ∙ get_or-append_seam (domains_to config n) last [] d
-      ∙ ap (λ m. domain_from config (domains_to config m) (m + 1)) (sym same))
+    let same : k ≡ n = omega (arith, h, more) in
+    ap (λ m. get_or (domains_to config n ++ last ∷ []) m d) (same ∙ sym (length_to config n)) ∙ get_or-append_seam (domains_to config n) last [] d
+    ∙ ap (λ m. domain_from config (domains_to config m) (m + 1)) (sym same))
     (cases_lt k n)
 
 pub domain_is : (config : Config) (hooks : List HookName) (items : List Item) (d : ℕ) → 1 ≤ d → d ≤ domain_total config

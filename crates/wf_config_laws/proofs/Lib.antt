@@ -7,3 +7,4 @@ pub mod Domains
 pub mod Times
 pub mod Tests
 pub mod SoundDomains
+pub mod Layouts

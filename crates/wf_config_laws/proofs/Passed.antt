@@ -1,9 +1,9 @@
 -- What is known where no test of a list fails.
-use Rattle.std.proofs.Common.{◌≡◌, ℕ, zero, suc, ◌+◌, ◌-◌, ◌<◌, ◌≤◌, Bool, true, false, cond, ◌&&◌, ◌||◌, List, [], ◌∷◌, ◌++◌, map, length, Option, Some, None, find, filter, filter_map, option_map, refl, sym, ap, ◌∙◌, arith}
+use Rattle.std.proofs.Common.{◌≡◌, ℕ, zero, suc, ◌+◌, ◌-◌, ◌<◌, ◌≤◌, Bool, true, false, cond, ◌&&◌, ◌||◌, List, [], ◌∷◌, ◌++◌, map, length, Option, Some, None, Ok, find, filter, filter_map, option_map, refl, sym, ap, ◌∙◌, arith}
 use Rattle.std.specs.Prelude.{slice_get}
 use Rattle.std.specs.List.{cons_option, enumerate_from, list_all, list_any, range_with_len}
 use Rattle.std.specs.Option.{option_or}
-use Rattle.wf_model.specs.Reading.{fault_if, first_fault}
+use Rattle.wf_model.specs.Reading.{fault_if, first_fault, unless_fault}
 use Rattle.wf_model.proofs.ReadingLemmas.{first_fault-append}
 
 pub none : {X : Type 0} (x : X) → (let o : Option X = None in o) ≡ Some x → ⊥
@@ -24,6 +24,11 @@ both_passed xs ys e = neither (first_fault xs) (first_fault ys) (sym (first_faul
 pub passed_if : {F : Type 0} (b : Bool) (f : F) → fault_if b f ≡ None → b ≡ false
 passed_if true f e = absurd (none f (sym e))
 passed_if false f e = refl
+
+-- what no fault stops is given
+pub given_up : {A F : Type 0} (o : Option F) (a b : A) → unless_fault o a ≡ Ok b → (o ≡ None) × (a ≡ b)
+given_up None a b e = (refl, cc)
+given_up (Some f) a b e = cc
 
 -- the test of an item
 pub passed_at : {A F : Type 0} (f : A → Option F) (xs : List A) (k : ℕ) (x : A) → first_fault (map f xs) ≡ None → slice_get xs k ≡ Some x → f x ≡ None

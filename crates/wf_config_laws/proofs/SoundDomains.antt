@@ -106,8 +106,8 @@ module _ (config : Config) (hooks : List HookName) (items : List Item) (values :
       ap (λ (x : Domain). x.seconds) (here c (omega (arith, h)) h.1)
       ∙ nest_is c (amount config (codes "time_step") 1) ((slice_index_or (before c) (p - 1) no_domain).seconds / ratio) h.0
       ∙ ap₂ (λ (s r : ℕ). s / r)
-          (ap (λ (x : Domain). x.seconds) (earlier c p (omega (arith, is, order)) (omega (arith, is, order)) h.1) ∙ ap (λ q. (domain_of plan q).seconds) (sym is))
-          (sym (time_ratio_is c h))
+      (ap (λ (x : Domain). x.seconds) (earlier c p (omega (arith, is, order)) (omega (arith, is, order)) h.1) ∙ ap (λ q. (domain_of plan q).seconds) (sym is))
+      (sym (time_ratio_is c h))
 
   whole_step : (c : ℕ) → IsNest c → (parent_of plan c).seconds % (domain_of plan c).time_ratio ≡ 0
   whole_step c h = multiple_fact (parent_of plan c).seconds (domain_of plan c).time_ratio (passed_if _ _ (tests c h).step)
@@ -128,9 +128,9 @@ module _ (config : Config) (hooks : List HookName) (items : List Item) (values :
   seconds_within (suc most) d low from upto =
       ⊎_elim
       (λ above.
-        let before = parent_before d (above, upto) in
-        subst (Within 1 3600) (sym (step_is d (above, upto)))
-        (quotient_within (parent_of plan d).seconds (domain_of plan d).time_ratio (seconds_within most (domain_of plan d).parent (omega (arith, before, low)) before.0 (omega (arith, before, upto))) (whole_step d (above, upto))))
+      let before = parent_before d (above, upto) in
+      subst (Within 1 3600) (sym (step_is d (above, upto)))
+      (quotient_within (parent_of plan d).seconds (domain_of plan d).time_ratio (seconds_within most (domain_of plan d).parent (omega (arith, before, low)) before.0 (omega (arith, before, upto))) (whole_step d (above, upto))))
       (λ one. subst (λ n. Within 1 3600 (domain_of plan n).seconds) (omega (arith, one, from)) (subst (Within 1 3600) (sym first_seconds) values.own.time_step.within))
       (cases_lt 1 d)
 

@@ -112,29 +112,69 @@ module _ (registry : Registry) (items : List Item) (passed : Passed registry ite
 
   ten_intervals : (d : ℕ) → 1 ≤ d → d ≤ domain_total config → All (HasNumber config d 0 100000) interval_names
   ten_intervals d from upto = All-from_recursion (HasNumber config d 0 100000) interval_names (
-      domain_number row.history_interval d from upto, (
-      domain_number row.auxhist1_interval d from upto, (
-      domain_number row.auxhist2_interval d from upto, (
-      domain_number row.auxhist3_interval d from upto, (
-      domain_number row.auxhist4_interval d from upto, (
-      domain_number row.auxhist5_interval d from upto, (
-      domain_number row.auxhist6_interval d from upto, (
-      domain_number row.auxhist7_interval d from upto, (
-      domain_number row.auxhist8_interval d from upto, (
-      domain_number row.auxhist9_interval d from upto, tt))))))))))
+    domain_number row.history_interval d from upto,
+    (
+      domain_number row.auxhist1_interval d from upto,
+      (
+        domain_number row.auxhist2_interval d from upto,
+        (
+          domain_number row.auxhist3_interval d from upto,
+          (
+            domain_number row.auxhist4_interval d from upto,
+            (
+              domain_number row.auxhist5_interval d from upto,
+              (
+                domain_number row.auxhist6_interval d from upto,
+                (
+                  domain_number row.auxhist7_interval d from upto,
+                  (
+                    domain_number row.auxhist8_interval d from upto,
+                    (
+                      domain_number row.auxhist9_interval d from upto,
+                      tt,
+                    ),
+                  ),
+                ),
+              ),
+            ),
+          ),
+        ),
+      ),
+    ),
+  )
 
   ten_frames : (d : ℕ) → 1 ≤ d → d ≤ domain_total config → All (HasNumber config d 1 100000) frames_names
   ten_frames d from upto = All-from_recursion (HasNumber config d 1 100000) frames_names (
-      domain_number row.frames_per_outfile d from upto, (
-      domain_number row.frames_per_auxhist1 d from upto, (
-      domain_number row.frames_per_auxhist2 d from upto, (
-      domain_number row.frames_per_auxhist3 d from upto, (
-      domain_number row.frames_per_auxhist4 d from upto, (
-      domain_number row.frames_per_auxhist5 d from upto, (
-      domain_number row.frames_per_auxhist6 d from upto, (
-      domain_number row.frames_per_auxhist7 d from upto, (
-      domain_number row.frames_per_auxhist8 d from upto, (
-      domain_number row.frames_per_auxhist9 d from upto, tt))))))))))
+    domain_number row.frames_per_outfile d from upto,
+    (
+      domain_number row.frames_per_auxhist1 d from upto,
+      (
+        domain_number row.frames_per_auxhist2 d from upto,
+        (
+          domain_number row.frames_per_auxhist3 d from upto,
+          (
+            domain_number row.frames_per_auxhist4 d from upto,
+            (
+              domain_number row.frames_per_auxhist5 d from upto,
+              (
+                domain_number row.frames_per_auxhist6 d from upto,
+                (
+                  domain_number row.frames_per_auxhist7 d from upto,
+                  (
+                    domain_number row.frames_per_auxhist8 d from upto,
+                    (
+                      domain_number row.frames_per_auxhist9 d from upto,
+                      tt,
+                    ),
+                  ),
+                ),
+              ),
+            ),
+          ),
+        ),
+      ),
+    ),
+  )
 
   own_values : HasOwnValues config
   own_values = record {

@@ -2,6 +2,7 @@
 //! each config that `config_of` gives of them, so of what `bind` gives.
 #![tactic(auto)]
 
+ghost use Rattle.wf_config_laws.specs.Layouts.{LayoutsAreRanged};
 ghost use Rattle.wf_config_laws.specs.RangedValues.{BoundValuesAreInRange};
 ghost use Rattle.wf_config_laws.specs.SoundDomains.{DomainsAreRanged, BoundDomainsAreRanged};
 
@@ -20,4 +21,10 @@ pub fn domains_are_ranged()
 /// So they are for each config that a Registry and a namelist give.
 pub fn bound_domains_are_ranged()
     ensures { BoundDomainsAreRanged }
+{}
+
+/// A layout that a config asks for has its numbers in their ranges, and no more patches than points in a direction of any
+/// domain, where the config's values are in theirs, the plan has a domain, and there are 1 to 64 workers.
+pub fn layouts_are_ranged()
+    ensures { LayoutsAreRanged }
 {}
