@@ -120,7 +120,7 @@ not_both true true false is e = cc
 not_both true false c is e = cc
 not_both false b c is e = cc
 
-module _ (registry : Registry) (items : List Item) (passed : Passed registry items) (name : Text) (each : Bool) (allowed : ℤ → Bool) (row : Row name each allowed) where
+module _ (registry : Registry) (items : List Item) (passed : Passed registry items) {name : Text} {each : Bool} {allowed : ℤ → Bool} (row : Row name each allowed) where
   abbrev pub rules : List NameRule
   rules = rules_of registry
 

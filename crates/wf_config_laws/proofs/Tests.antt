@@ -36,37 +36,37 @@ pub domains_pass : (config : Config) (plan : Plan) → first_fault (domain_fault
 unfolding domain_faults
 domains_pass config plan e =
     let nests = nests_of plan in
-    let a = map (date_fault config) (domains_of plan) in
-    let b = a ++ (end_fault config ∷ []) in
-    let c = b ++ map (parent_fault plan) nests in
-    let d = c ++ map (ratio_fault plan) nests in
-    let f = d ++ map (size_fault plan) nests in
-    let g = f ++ map (edge_fault plan) nests in
-    let h = g ++ map (periodic_fault plan) nests in
-    let i = h ++ map (step_fault plan) nests in
-    let j = i ++ (run_fault config plan ∷ []) in
-    let k = j ++ map (start_fault plan) nests in
-    let at_k = both_passed k (flat_map (interval_faults config plan) (domains_of plan)) e in
-    let at_j = both_passed j (map (start_fault plan) nests) at_k.0 in
-    let at_i = both_passed i (run_fault config plan ∷ []) at_j.0 in
-    let at_h = both_passed h (map (step_fault plan) nests) at_i.0 in
-    let at_g = both_passed g (map (periodic_fault plan) nests) at_h.0 in
-    let at_f = both_passed f (map (edge_fault plan) nests) at_g.0 in
-    let at_d = both_passed d (map (size_fault plan) nests) at_f.0 in
-    let at_c = both_passed c (map (ratio_fault plan) nests) at_d.0 in
-    let at_b = both_passed b (map (parent_fault plan) nests) at_c.0 in
-    let at_a = both_passed a (end_fault config ∷ []) at_b.0 in
+    let dates = map (date_fault config) (domains_of plan) in
+    let to_end = dates ++ (end_fault config ∷ []) in
+    let to_parents = to_end ++ map (parent_fault plan) nests in
+    let to_ratios = to_parents ++ map (ratio_fault plan) nests in
+    let to_sizes = to_ratios ++ map (size_fault plan) nests in
+    let to_edges = to_sizes ++ map (edge_fault plan) nests in
+    let to_periodic = to_edges ++ map (periodic_fault plan) nests in
+    let to_steps = to_periodic ++ map (step_fault plan) nests in
+    let to_run = to_steps ++ (run_fault config plan ∷ []) in
+    let to_starts = to_run ++ map (start_fault plan) nests in
+    let pass_to_starts = both_passed to_starts (flat_map (interval_faults config plan) (domains_of plan)) e in
+    let pass_to_run = both_passed to_run (map (start_fault plan) nests) pass_to_starts.0 in
+    let pass_to_steps = both_passed to_steps (run_fault config plan ∷ []) pass_to_run.0 in
+    let pass_to_periodic = both_passed to_periodic (map (step_fault plan) nests) pass_to_steps.0 in
+    let pass_to_edges = both_passed to_edges (map (periodic_fault plan) nests) pass_to_periodic.0 in
+    let pass_to_sizes = both_passed to_sizes (map (edge_fault plan) nests) pass_to_edges.0 in
+    let pass_to_ratios = both_passed to_ratios (map (size_fault plan) nests) pass_to_sizes.0 in
+    let pass_to_parents = both_passed to_parents (map (ratio_fault plan) nests) pass_to_ratios.0 in
+    let pass_to_end = both_passed to_end (map (parent_fault plan) nests) pass_to_parents.0 in
+    let pass_dates = both_passed dates (end_fault config ∷ []) pass_to_end.0 in
     record {
       dates = λ n from upto.
-          ap (date_fault config) (omega (arith, from)) ∙ passed_range (date_fault config) 1 (length plan.domains) (n - 1) at_a.0 (omega (arith, from, upto));
-      ending = (neither (end_fault config) None at_a.1).0;
+          ap (date_fault config) (omega (arith, from)) ∙ passed_range (date_fault config) 1 (length plan.domains) (n - 1) pass_dates.0 (omega (arith, from, upto));
+      ending = (neither (end_fault config) None pass_dates.1).0;
       nests = λ n above upto. record {
-        parent = of_nests plan (parent_fault plan) at_b.1 n above upto;
-        ratio = of_nests plan (ratio_fault plan) at_c.1 n above upto;
-        size = of_nests plan (size_fault plan) at_d.1 n above upto;
-        edge = of_nests plan (edge_fault plan) at_f.1 n above upto;
-        periodic = of_nests plan (periodic_fault plan) at_g.1 n above upto;
-        step = of_nests plan (step_fault plan) at_h.1 n above upto;
-        start = of_nests plan (start_fault plan) at_j.1 n above upto;
+        parent = of_nests plan (parent_fault plan) pass_to_end.1 n above upto;
+        ratio = of_nests plan (ratio_fault plan) pass_to_parents.1 n above upto;
+        size = of_nests plan (size_fault plan) pass_to_ratios.1 n above upto;
+        edge = of_nests plan (edge_fault plan) pass_to_sizes.1 n above upto;
+        periodic = of_nests plan (periodic_fault plan) pass_to_edges.1 n above upto;
+        step = of_nests plan (step_fault plan) pass_to_periodic.1 n above upto;
+        start = of_nests plan (start_fault plan) pass_to_run.1 n above upto;
       };
     }

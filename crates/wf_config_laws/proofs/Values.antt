@@ -62,23 +62,23 @@ module _ (registry : Registry) (items : List Item) (passed : Passed registry ite
   integer_at name d m at = ap int_of (ap (λ values. slice_get (values_of values name) (d - 1)) are ∙ at)
 
   -- the value of max_dom
-  abbrev first : bound.NumberAt registry items passed (codes "max_dom") false (to 1 8) row.max_dom 0
-  first = bound.number_at registry items passed (codes "max_dom") false (to 1 8) row.max_dom 0 (bound.one registry items passed (codes "max_dom") false (to 1 8) row.max_dom refl)
+  abbrev first : bound.NumberAt registry items passed row.max_dom 0
+  first = bound.number_at registry items passed row.max_dom 0 (bound.one registry items passed row.max_dom refl)
 
   abbrev first_rule : NameRule
-  first_rule = bound.r registry items passed (codes "max_dom") false (to 1 8) row.max_dom
+  first_rule = bound.r registry items passed row.max_dom
 
   given_is : given items in_domains (codes "max_dom") ≡ given items first_rule.group first_rule.name
   given_is =
-      let same_rule = kept (bound.declared registry items passed (codes "max_dom") false (to 1 8) row.max_dom) (row.max_dom).rule in
-      ap₂ (given items) (sym (same_rule.group ∙ row.max_dom_group)) (sym (bound.r_named registry items passed (codes "max_dom") false (to 1 8) row.max_dom))
+      let same_rule = kept (bound.declared registry items passed row.max_dom) (row.max_dom).rule in
+      ap₂ (given items) (sym (same_rule.group ∙ row.max_dom_group)) (sym (bound.r_named registry items passed row.max_dom))
 
   -- the config's number of domains is the one that says which values count
   pub max_dom_is : max_dom rules items ≡ first.m
   max_dom_is =
-      let values = bound.values_are registry items passed (codes "max_dom") false (to 1 8) row.max_dom in
-      ap₂ (λ us o. unwrap_or (option_or (if_in_i32 (first_int us)) (first_int (default_max_dom o))) (pos 1)) given_is (bound.is_rule registry items passed (codes "max_dom") false (to 1 8) row.max_dom)
-      ∙ first_says (domain_count rules items) first_rule (given items first_rule.group first_rule.name) first.m (bound.r_each registry items passed (codes "max_dom") false (to 1 8) row.max_dom) first.fits
+      let values = bound.values_are registry items passed row.max_dom in
+      ap₂ (λ us o. unwrap_or (option_or (if_in_i32 (first_int us)) (first_int (default_max_dom o))) (pos 1)) given_is (bound.is_rule registry items passed row.max_dom)
+      ∙ first_says (domain_count rules items) first_rule (given items first_rule.group first_rule.name) first.m (bound.r_each registry items passed row.max_dom) first.fits
       (sym (ap (λ us. slice_get us 0) values) ∙ first.at)
 
   pub total_is : domain_total config ≡ domain_count rules items
@@ -94,20 +94,20 @@ module _ (registry : Registry) (items : List Item) (passed : Passed registry ite
   -- a name with one number
   pub own_number : {name : Text} {low high : ℕ} → Row name false (to low high) → HasNumber config 1 low high name
   own_number {name} {low} {high} row =
-      let n = bound.number_at registry items passed name false (to low high) row 0 (bound.one registry items passed name false (to low high) row refl) in
+      let n = bound.number_at registry items passed row 0 (bound.one registry items passed row refl) in
       has_number name 1 low high n.m (integer_at name 1 n.m n.at) (in_range low high n.m n.is_allowed)
 
   -- one that may be -1
   pub open_number : {name : Text} → Row name false (minus_one_or (to 1 2000)) → (integer config name 1 ≡ negsuc 0) ⊎ HasNumber config 1 1 2000 name
   open_number {name} row =
-      let n = bound.number_at registry items passed name false (minus_one_or (to 1 2000)) row 0 (bound.one registry items passed name false (minus_one_or (to 1 2000)) row refl) in
+      let n = bound.number_at registry items passed row 0 (bound.one registry items passed row refl) in
       ⊎_elim (λ is. inl (integer_at name 1 n.m n.at ∙ is)) (λ range. inr (has_number name 1 1 2000 n.m (integer_at name 1 n.m n.at) range)) (open_or_in_range n.m n.is_allowed)
 
   -- a name with a number for each domain
   pub domain_number : {name : Text} {low high : ℕ} → Row name true (to low high) → (d : ℕ) → 1 ≤ d → d ≤ domain_total config → HasNumber config d low high name
   domain_number {name} {low} {high} row d from upto =
       let within : d - 1 < domain_count rules items = omega (arith, from, upto, total_is) in
-      let n = bound.number_at registry items passed name true (to low high) row (d - 1) (bound.of_domain registry items passed name true (to low high) row (d - 1) refl within) in
+      let n = bound.number_at registry items passed row (d - 1) (bound.of_domain registry items passed row (d - 1) refl within) in
       has_number name d low high n.m (integer_at name d n.m n.at) (in_range low high n.m n.is_allowed)
 
   ten_intervals : (d : ℕ) → 1 ≤ d → d ≤ domain_total config → All (HasNumber config d 0 100000) interval_names
