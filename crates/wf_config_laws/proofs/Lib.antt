@@ -1,0 +1,10 @@
+pub mod Passed
+pub mod Bound
+pub mod Rows
+pub mod Values
+pub mod Facts
+pub mod Domains
+pub mod Times
+pub mod Tests
+pub mod SoundDomains
+pub mod Layouts

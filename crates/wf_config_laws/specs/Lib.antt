@@ -1,0 +1,3 @@
+pub mod RangedValues
+pub mod SoundDomains
+pub mod Layouts
