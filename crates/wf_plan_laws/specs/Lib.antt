@@ -1,1 +1,3 @@
+pub mod TestLaws
 pub mod ReadLaws
+pub mod PartLaws
