@@ -1,19 +1,17 @@
 -- The items of a table are sound in the plan.
-use Rattle.std.proofs.Common.{◌≡◌, ℕ, ◌<◌, List, [], ◌∷◌, map, length, get_or, refl, sym, ap, ◌∙◌, subst}
+use Rattle.std.proofs.Common.{◌≡◌, ℕ, ◌<◌, List, [], ◌∷◌, length, sym, ap, ◌∙◌, subst}
 use Rattle.std.specs.Prelude.{Any}
 use Rattle.std.specs.List.{All, AllByRecursion}
 use Rattle.std.proofs.lemmas.List.{length-map}
-use Rattle.std.proofs.lemmas.List.Elements.{All-from_recursion, recursion_from_All, All-weaker}
+use Rattle.std.proofs.lemmas.List.Elements.{All-from_recursion, recursion_from_All}
 use Rattle.wf_model.specs.declared.config.Config.{Config}
-use Rattle.wf_model.specs.declared.plan.Field.{Field}
-use Rattle.wf_model.specs.declared.plan.Phase.{Phase}
 use Rattle.wf_model.specs.declared.plan.Plan.{Plan}
 use Rattle.wf_model.specs.declared.plan.Item.{Item}
 use Rattle.wf_model.specs.declared.plan.Item.TheVariants as item
 use Rattle.wf_model.specs.declared.table.HookName.{HookName}
 use Rattle.wf_model.specs.declared.table.Names.{Names}
 use Rattle.wf_model.specs.Letters.{Text}
-use Rattle.wf_model.specs.Plans.{field_of, no_field}
+use Rattle.wf_model.specs.Plans.{field_of}
 use Rattle.wf_model.specs.PlanTests.{phases}
 use Rattle.wf_model.specs.NamesOf.{names_of}
 use Rattle.wf_model.specs.Sound.{IsSoundItem, IsSoundPhase}

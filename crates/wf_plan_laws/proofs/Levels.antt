@@ -1,7 +1,6 @@
 -- The field levels of a plan are in their ranges, and each has its pair.
-use Rattle.std.proofs.Common.{◌≡◌, ℕ, ◌<◌, List, length, get_or, sym, subst}
+use Rattle.std.proofs.Common.{get_or, sym, subst}
 use Rattle.std.specs.List.{All}
-use Rattle.wf_model.specs.declared.plan.Field.{Field}
 use Rattle.wf_model.specs.Plans.{field_of, no_field}
 use Rattle.wf_model.specs.PlanFields.{z_extents}
 use Rattle.wf_model.specs.Ranges.{IsRangedField}

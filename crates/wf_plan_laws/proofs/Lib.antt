@@ -6,3 +6,4 @@ pub mod Items
 pub mod Levels
 pub mod Limits
 pub mod Single
+pub mod Plans

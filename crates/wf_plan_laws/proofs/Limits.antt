@@ -1,10 +1,9 @@
 -- Limits whose tests pass are kept.
-use Rattle.std.proofs.Common.{◌≡◌, ℕ, ◌+◌, ◌≤◌, false, List, ◌∷◌, ◌++◌, length, map, None, arith}
-use Rattle.std.specs.Prelude.{ℤ, pos, nat_lt, flat_map}
+use Rattle.std.proofs.Common.{◌≡◌, ℕ, ◌≤◌, ◌∷◌, ◌++◌, length, map, None, arith}
+use Rattle.std.specs.Prelude.{pos, nat_lt, flat_map}
 use Rattle.std.specs.List.{range_with_len}
 use Rattle.std.proofs.lemmas.Bool.{ltb-false}
 use Rattle.wf_model.specs.declared.plan.Plan.{Plan}
-use Rattle.wf_model.specs.declared.plan_fault.PlanFault.{PlanFault}
 use Rattle.wf_model.specs.declared.plan_fault.PlanFault.TheVariants.{Limit}
 use Rattle.wf_model.specs.declared.plan_fault.Which.TheVariants as which
 use Rattle.wf_model.specs.Reading.{fault_if, first_fault}

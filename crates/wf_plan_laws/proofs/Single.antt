@@ -1,5 +1,5 @@
 -- How many domains a plan has.
-use Rattle.std.proofs.Common.{◌≡◌, ℕ, zero, suc, ◌+◌, ◌≤◌, Bool, false, List, [], ◌∷◌, ◌++◌, length, map, take, Some, refl, sym, ap, ◌∙◌, arith, length-append}
+use Rattle.std.proofs.Common.{◌≡◌, ℕ, zero, suc, ◌+◌, ◌≤◌, false, List, [], ◌∷◌, length, map, take, Some, refl, arith, length-append}
 use Rattle.std.specs.Prelude.{ℤ, pos, int_lt, slice_get, codes}
 use Rattle.std.specs.List.{list_any}
 use Rattle.std.proofs.lemmas.Int.{ints}
@@ -11,7 +11,7 @@ use Rattle.wf_model.specs.declared.plan_fault.PlanFault.TheVariants.{NotBuilt}
 use Rattle.wf_model.specs.Config.{values_of}
 use Rattle.wf_model.specs.PlanDomains.{int_of, domain_total, domains_to, domain_from}
 use Rattle.wf_model.specs.PlanOf.{plan_from}
-use Rattle.wf_model.specs.PlanTests.{is_above, unbuilt_fault, until_nests, until_restart}
+use Rattle.wf_model.specs.PlanTests.{is_above, unbuilt_fault, until_restart}
 use Rattle.wf_registry_laws.proofs.Tests.{or_none, if_fails}
 use Rattle.wf_plan_laws.specs.PartLaws.{DomainsAreCounted, DomainsAreSingle}
 

@@ -1,17 +1,15 @@
 -- Phases whose reads pass the tests read within the levels and the extents.
-use Rattle.std.proofs.Common.{◌≡◌, ℕ, ◌+◌, ◌<◌, ◌≤◌, Bool, true, false, List, [], length, map, Option, None, refl, sym, subst, get_or, arith}
-use Rattle.std.specs.Prelude.{ℤ, pos, ◌+ℤ◌, ◌&&◌, ◌||◌, ◌==◌, int_lt, flat_map, if◌then◌else◌}
-use Rattle.std.specs.List.{All, AllByRecursion, range_with_len}
+use Rattle.std.proofs.Common.{◌≡◌, ℕ, ◌≤◌, true, false, List, [], length, map, Option, None, get_or, arith}
+use Rattle.std.specs.Prelude.{ℤ, pos, ◌&&◌, ◌||◌, ◌==◌, int_lt, flat_map, if◌then◌else◌}
+use Rattle.std.specs.List.{All, AllByRecursion}
 use Rattle.std.proofs.lemmas.Bool.{and_parts, and_from, or_parts}
 use Rattle.std.proofs.lemmas.List.Elements.{All-from_recursion}
-use Rattle.wf_model.specs.declared.plan.Domain.{Domain}
-use Rattle.wf_model.specs.declared.plan.Field.{Field}
 use Rattle.wf_model.specs.declared.plan.Phase.{Phase}
 use Rattle.wf_model.specs.declared.plan.Plan.{Plan}
 use Rattle.wf_model.specs.declared.plan_fault.PlanFault.{PlanFault}
 use Rattle.wf_model.specs.declared.plan_fault.PlanFault.TheVariants.{ReadPastLevels, ReadPastEdge}
 use Rattle.wf_model.specs.Reading.{fault_if, first_fault}
-use Rattle.wf_model.specs.Plans.{domain_of, field_of, domains_of, nx, ny, nz, level_at, is_inside}
+use Rattle.wf_model.specs.Plans.{domain_of, field_of, domains_of, nx, ny, nz, is_inside}
 use Rattle.wf_model.specs.Changes.{in_region, is_phase_level}
 use Rattle.wf_model.specs.Patches.{is_place}
 use Rattle.wf_model.specs.Reads.{Read, reads_of}
@@ -65,18 +63,18 @@ sound_read plan zs d ph r extents level passes =
     record {
       level = level;
       inside = λ k j i h.
-        let in_it = lies k j i h in
-        let leaves_x = read_leaves (domain_of plan d).periodic_x (region_x plan d ph) r.di (nx plan d r.field) in
-        let leaves_y = read_leaves (domain_of plan d).periodic_y (region_y plan d ph) r.dj (ny plan d r.field) in
-        let p = or_parts leaves_x leaves_y (if_fails (leaves_x || leaves_y) (ReadPastEdge d ph.name (field_of plan r.field).name) (passes.edges (region_there plan zs d ph k j i in_it))) in
-        and_from _ _ (stays (domain_of plan d).periodic_y (region_y plan d ph) r.dj (ny plan d r.field) (pos j) p.1 in_it.y)
-        (stays (domain_of plan d).periodic_x (region_x plan d ph) r.di (nx plan d r.field) (pos i) p.0 in_it.x);
+          let in_it = lies k j i h in
+          let leaves_x = read_leaves (domain_of plan d).periodic_x (region_x plan d ph) r.di (nx plan d r.field) in
+          let leaves_y = read_leaves (domain_of plan d).periodic_y (region_y plan d ph) r.dj (ny plan d r.field) in
+          let p = or_parts leaves_x leaves_y (if_fails (leaves_x || leaves_y) (ReadPastEdge d ph.name (field_of plan r.field).name) (passes.edges (region_there plan zs d ph k j i in_it))) in
+          and_from _ _ (stays (domain_of plan d).periodic_y (region_y plan d ph) r.dj (ny plan d r.field) (pos j) p.1 in_it.y)
+          (stays (domain_of plan d).periodic_x (region_x plan d ph) r.di (nx plan d r.field) (pos i) p.0 in_it.x);
       levels = λ k j i h.
-        let in_it = lies k j i h in
-        level_read has_z (region_z zs ph) r.dk (nz plan r.field) (extent_at zs r.field) (pos k) (extents.same r.field) (extents.some r.field level) (high k j i in_it) in_it.z;
+          let in_it = lies k j i h in
+          level_read has_z (region_z zs ph) r.dk (nz plan r.field) (extent_at zs r.field) (pos k) (extents.same r.field) (extents.some r.field level) (high k j i in_it) in_it.z;
       above = λ k j i h t.
-        let in_it = lies k j i h in
-        above_ground has_z (region_z zs ph) r.dk (extent_at zs r.field) (pos k) (high k j i in_it) in_it.z t;
+          let in_it = lies k j i h in
+          above_ground has_z (region_z zs ph) r.dk (extent_at zs r.field) (pos k) (high k j i in_it) in_it.z t;
     }
 
 -- ---- a phase
@@ -93,13 +91,13 @@ top_fault plan zs ph = fault_if (int_lt (extent_at zs ph.writes) (pos ph.to)) (R
 passes_read : (plan : Plan) (zs : List ℤ) (d : ℕ) (ph : Phase) → PassesIn plan zs d ph → All (PassesRead plan zs d ph) (reads_of ph.expr)
 passes_read plan zs d ph h k none within = record {
   levels = λ t.
-    let reads = map (levels_fault plan zs ph) (reads_of ph.expr) in
-    let rest = (or_none (top_fault plan zs ph) (if has_region plan zs d ph then reads else []) h.levels).1 in
-    All-from_recursion (λ r. levels_fault plan zs ph r ≡ None) (reads_of ph.expr)
-    (each_passes (levels_fault plan zs ph) (reads_of ph.expr) (where_true (has_region plan zs d ph) reads rest t)) k none within;
+      let reads = map (levels_fault plan zs ph) (reads_of ph.expr) in
+      let rest = (or_none (top_fault plan zs ph) (if has_region plan zs d ph then reads else []) h.levels).1 in
+      All-from_recursion (λ r. levels_fault plan zs ph r ≡ None) (reads_of ph.expr)
+      (each_passes (levels_fault plan zs ph) (reads_of ph.expr) (where_true (has_region plan zs d ph) reads rest t)) k none within;
   edges = λ t.
-    All-from_recursion (λ r. edges_fault plan d ph r ≡ None) (reads_of ph.expr)
-    (each_passes (edges_fault plan d ph) (reads_of ph.expr) (where_true (has_region plan zs d ph) (map (edges_fault plan d ph) (reads_of ph.expr)) h.edges t)) k none within;
+      All-from_recursion (λ r. edges_fault plan d ph r ≡ None) (reads_of ph.expr)
+      (each_passes (edges_fault plan d ph) (reads_of ph.expr) (where_true (has_region plan zs d ph) (map (edges_fault plan d ph) (reads_of ph.expr)) h.edges t)) k none within;
 }
 
 sound_phase : (plan : Plan) (zs : List ℤ) (ph : Phase) → AreExtents plan zs → 1 ≤ length plan.domains → NamesLevels plan ph
@@ -107,11 +105,11 @@ sound_phase : (plan : Plan) (zs : List ℤ) (ph : Phase) → AreExtents plan zs 
 sound_phase plan zs ph extents some names passes = record {
   writes = names.writes;
   top =
-    let first : PassesIn plan zs 1 ph = passes 1 (omega arith, some) in
-    not_above (extent_at zs ph.writes) (nz plan ph.writes) ph.to (extents.same ph.writes)
-    (if_fails (int_lt (extent_at zs ph.writes) (pos ph.to)) (ReadPastLevels ph.name (field_of plan ph.writes).name) (or_none (top_fault plan zs ph) (if has_region plan zs 1 ph then map (levels_fault plan zs ph) (reads_of ph.expr) else []) first.levels).0);
+      let first : PassesIn plan zs 1 ph = passes 1 (omega arith, some) in
+      not_above (extent_at zs ph.writes) (nz plan ph.writes) ph.to (extents.same ph.writes)
+      (if_fails (int_lt (extent_at zs ph.writes) (pos ph.to)) (ReadPastLevels ph.name (field_of plan ph.writes).name) (or_none (top_fault plan zs ph) (if has_region plan zs 1 ph then map (levels_fault plan zs ph) (reads_of ph.expr) else []) first.levels).0);
   reads = λ d is k none within.
-    sound_read plan zs d ph (get_or (reads_of ph.expr) k none) extents (names.reads k none within) (passes_read plan zs d ph (passes d is) k none within);
+      sound_read plan zs d ph (get_or (reads_of ph.expr) k none) extents (names.reads k none within) (passes_read plan zs d ph (passes d is) k none within);
 }
 
 -- ---- all phases in all domains

@@ -1,8 +1,8 @@
 -- A point of a region lies in its spans, and moved by a read's offset it stays where the tests pass.
-use Rattle.std.proofs.Common.{◌≡◌, ℕ, zero, suc, ◌+◌, ◌-◌, ◌<◌, ◌≤◌, Bool, true, false, refl, sym, ap, ◌∙◌, subst, eqb, arith, if◌then◌else◌}
-use Rattle.std.specs.Prelude.{ℤ, pos, ◌+ℤ◌, ◌-ℤ◌, ◌≤ℤ◌, ◌<ℤ◌, int_lt, int_le, unsigned_abs, ◌&&◌, ◌||◌, not, nat_le, nat_lt}
+use Rattle.std.proofs.Common.{◌≡◌, ℕ, ◌+◌, ◌-◌, ◌≤◌, Bool, true, false, refl, sym, subst, arith, if◌then◌else◌}
+use Rattle.std.specs.Prelude.{ℤ, pos, ◌+ℤ◌, ◌≤ℤ◌, ◌<ℤ◌, int_lt, int_le, unsigned_abs, ◌&&◌, ◌||◌, nat_le}
 use Rattle.std.proofs.lemmas.Int.{ints}
-use Rattle.std.proofs.lemmas.Bool.{and_parts, and_from, or_parts, or_from, leb-true}
+use Rattle.std.proofs.lemmas.Bool.{and_parts, and_from, or_parts, leb-true}
 use Rattle.wf_model.specs.Plans.{is_within, is_inside}
 use Rattle.wf_model.specs.Patches.{Span, in_span}
 use Rattle.wf_model.specs.PlanTests.{region_span, has_points, leaves, read_leaves}

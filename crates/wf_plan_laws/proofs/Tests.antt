@@ -1,5 +1,5 @@
 -- A plan that is given has passed each group of its tests.
-use Rattle.std.proofs.Common.{◌≡◌, List, ◌++◌, map, Option, Some, None, Result, Ok, refl, subst}
+use Rattle.std.proofs.Common.{◌≡◌, ◌++◌, map, Option, Some, None, Ok, refl, subst}
 use Rattle.wf_model.specs.declared.config.Config.{Config}
 use Rattle.wf_model.specs.declared.plan.Plan.{Plan}
 use Rattle.wf_model.specs.Reading.{first_fault, unless_fault}

@@ -4,6 +4,7 @@
 ghost use Rattle.wf_plan_laws.specs.TestLaws.{PlansPassTheirTests};
 ghost use Rattle.wf_plan_laws.specs.ReadLaws.{ReadsAreSound};
 ghost use Rattle.wf_plan_laws.specs.PartLaws.{PhasesNameLevels, ItemsAreSound, FieldsAreSound, LimitsAreKept, DomainsAreCounted, DomainsAreSingle};
+ghost use Rattle.wf_plan_laws.specs.PlanLaws.{PlansWithHooksAreSound, AcceptedPlansAreSound};
 
 /// A plan that is given is what the config and the table say, and each group of its tests passes.
 pub fn plans_pass_their_tests()
@@ -43,4 +44,15 @@ pub fn domains_are_counted()
 /// Before nests are built a plan that is accepted has at most one domain.
 pub fn domains_are_single()
     ensures { DomainsAreSingle }
+{}
+
+/// A plan of a Registry, a namelist and a table that is accepted is sound, its numbers are in their ranges, its files keep
+/// within their sizes, and it has one domain; calls are of stored functions.
+pub fn plans_with_hooks_are_sound()
+    ensures { PlansWithHooksAreSound }
+{}
+
+/// So it is without stored functions, and nothing is called.
+pub fn accepted_plans_are_sound()
+    ensures { AcceptedPlansAreSound }
 {}
