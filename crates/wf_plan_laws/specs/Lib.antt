@@ -1,0 +1,4 @@
+pub mod TestLaws
+pub mod ReadLaws
+pub mod PartLaws
+pub mod PlanLaws
