@@ -1,17 +1,22 @@
 -- The parts of an accepted plan put together.
-use Rattle.std.proofs.Common.{◌≡◌, inl, ℕ, ◌-◌, ◌≤◌, List, [], length, refl, sym, subst, arith}
+use Rattle.std.proofs.Common.{◌≡◌, inl, Ok, pos, codes, ◌≤◌, List, [], length, refl, sym, subst, arith}
 use Rattle.std.specs.List.{All}
 use Rattle.std.proofs.lemmas.List.Elements.{All-nil}
 use Rattle.wf_model.specs.declared.config.Config.{Config}
 use Rattle.wf_model.specs.declared.plan.Plan.{Plan}
 use Rattle.wf_model.specs.declared.plan.Item.{Item}
 use Rattle.wf_model.specs.declared.table.HookName.{HookName}
-use Rattle.wf_model.specs.Plans.{domain_of, no_domain}
-use Rattle.wf_model.specs.PlanDomains.{domain_total}
+use Rattle.wf_model.specs.Config.{config_of}
+use Rattle.wf_model.specs.declared.registry.Registry.{Registry}
+use Rattle.wf_model.specs.declared.namelist.Namelist.{Namelist}
+use Rattle.wf_model.specs.PlanDomains.{integer, domain_total}
 use Rattle.wf_model.specs.PlanFields.{z_extents}
 use Rattle.wf_model.specs.PlanOf.{plan_from}
-use Rattle.wf_model.specs.Ranges.{IsRangedDomain}
-use Rattle.wf_model.specs.Sound.{IsDomain, IsSoundItem, IsSoundPlan, IsRangedPlan, UsesHooks}
+use Rattle.wf_model.specs.Sound.{IsSoundItem, IsSoundPlan, IsRangedPlan, UsesHooks}
+use Rattle.wf_config_laws.specs.SoundDomains.{HasSoundDomains}
+use Rattle.wf_config_laws.specs.RangedValues.{HasRangedValues}
+use Rattle.wf_config_laws.proofs.Values.{bound_values_ranged}
+use Rattle.wf_config_laws.proofs.SoundDomains.{bound_domains_ranged}
 use Rattle.wf_registry_laws.specs.FieldLaws.{field_levels}
 use Rattle.wf_registry_laws.proofs.Registries.{registries_are_sound}
 use Rattle.wf_registry_laws.proofs.Configs.{configs_are_sound}
@@ -22,7 +27,7 @@ use Rattle.wf_table_laws.proofs.Margins.{margins_small}
 use Rattle.wf_table_laws.proofs.BoundNames.{bound_tables}
 use Rattle.wf_plan_laws.specs.TestLaws.{PassesTests}
 use Rattle.wf_plan_laws.specs.PartLaws.{AreSoundFields, PassesLimits}
-use Rattle.wf_plan_laws.specs.PlanLaws.{HasSoundDomains, IsAcceptedPlan, PlansWithHooksAreSound, AcceptedPlansAreSound}
+use Rattle.wf_plan_laws.specs.PlanLaws.{IsAcceptedPlan, PlansWithHooksAreSound, AcceptedPlansAreSound}
 use Rattle.wf_plan_laws.proofs.Tests.{plans_pass_their_tests}
 use Rattle.wf_plan_laws.proofs.SoundReads.{reads_are_sound}
 use Rattle.wf_plan_laws.proofs.Items.{phases_name_levels, items_are_sound}
@@ -30,17 +35,16 @@ use Rattle.wf_plan_laws.proofs.Levels.{fields_are_sound}
 use Rattle.wf_plan_laws.proofs.Limits.{limits_are_kept}
 use Rattle.wf_plan_laws.proofs.Single.{domains_are_counted, domains_are_single}
 
--- a domain by its number is in its ranges
-domain_ranged : (plan : Plan) (d : ℕ) → HasSoundDomains plan → IsDomain plan d → IsRangedDomain (domain_of plan d)
-unfolding domain_of
-domain_ranged plan d h is = h.ranged (d - 1) no_domain (omega (arith, is.0, is.1))
+-- the number of domains isn't below 0
+max_dom_is : (registry : Registry) (namelist : Namelist) (config : Config) → config_of registry namelist ≡ Ok config → integer config (codes "max_dom") 1 ≡ pos (domain_total config)
+max_dom_is registry namelist config bound = let values : HasRangedValues config = bound_values_ranged registry namelist config bound in values.own.max_dom.number
 
 sound_plan : (plan : Plan) (zs : List _) → HasSoundDomains plan → AreSoundFields plan zs → All (IsSoundItem plan) plan.items → IsSoundPlan plan
 sound_plan plan zs domains fields items = record {
   some = domains.some;
-  wide = λ d is. let x = domain_ranged plan d domains is in x.ide.0;
-  high = λ d is. let x = domain_ranged plan d domains is in x.jde.0;
-  steps = λ d is. let x = domain_ranged plan d domains is in x.seconds.0;
+  wide = λ d is. let x = domains.each d is in x.ide.0;
+  high = λ d is. let x = domains.each d is in x.jde.0;
+  steps = λ d is. let x = domains.each d is in x.seconds.0;
   nests = domains.nests;
   levels = fields.extents.some;
   pairs = fields.pairs;
@@ -80,7 +84,7 @@ unfolding plan_from
 made_of config hooks items = record { fields = refl; given = refl; version = refl; domains = domains_are_counted config hooks items }
 
 pub plans_with_hooks_are_sound : PlansWithHooksAreSound
-plans_with_hooks_are_sound laws files defines registry namelist config hooks text items plan read bound arities table given =
+plans_with_hooks_are_sound files defines registry namelist config hooks text items plan read bound arities table given =
     let tests = plans_pass_their_tests config hooks items plan given in
     let zs = z_extents config in
     let passes = tests.1 in
@@ -89,8 +93,8 @@ plans_with_hooks_are_sound laws files defines registry namelist config hooks tex
     let own : AreItemsOf config hooks plan.items = subst (AreItemsOf config hooks) made.given (bound_tables files defines registry namelist config hooks text items read bound arities table) in
     let limits = limits_are_kept plan zs passes.limits in
     let fields = fields_are_sound config hooks plan sound made.fields limits.extents in
-    let domains : HasSoundDomains plan = subst (λ (p : Plan). HasSoundDomains p) tests.0 (laws.domains registry namelist config hooks items bound (subst (λ (p : Plan). PassesTests config p) (sym tests.0) passes).domains) in
-    let few : length plan.domains ≤ 1 = subst (λ n. n ≤ 1) (sym made.domains) (domains_are_single config (laws.count registry namelist config bound) passes.built) in
+    let domains : HasSoundDomains plan = subst (λ (p : Plan). HasSoundDomains p) tests.0 (bound_domains_ranged registry namelist config hooks items bound (subst (λ (p : Plan). PassesTests config p) (sym tests.0) passes).domains) in
+    let few : length plan.domains ≤ 1 = subst (λ n. n ≤ 1) (sym made.domains) (domains_are_single config (max_dom_is registry namelist config bound) passes.built) in
     let reads = reads_are_sound plan zs fields.extents domains.some (phases_name_levels config hooks plan made.fields own) passes.reads in
     record {
       sound = sound_plan plan zs domains fields (items_are_sound config hooks plan made.fields own reads);
@@ -103,6 +107,6 @@ plans_with_hooks_are_sound laws files defines registry namelist config hooks tex
     }
 
 pub accepted_plans_are_sound : AcceptedPlansAreSound
-accepted_plans_are_sound laws files defines registry namelist config text items plan read bound table given =
-    let all : IsAcceptedPlan [] plan = plans_with_hooks_are_sound laws files defines registry namelist config [] text items plan read bound (All-nil HasRangedArity) table given in
+accepted_plans_are_sound files defines registry namelist config text items plan read bound table given =
+    let all : IsAcceptedPlan [] plan = plans_with_hooks_are_sound files defines registry namelist config [] text items plan read bound (All-nil HasRangedArity) table given in
     record { sound = all.sound; ranged = all.ranged; files = all.files; single = all.single; no_calls = all.no_calls refl }

@@ -1,5 +1,5 @@
 -- A plan that is accepted is sound, and its numbers are in their ranges.
-use Rattle.std.specs.Prelude.{◌≡◌, ℕ, ◌<◌, ◌≤◌, List, [], length, pos, None, Ok, codes}
+use Rattle.std.specs.Prelude.{◌≡◌, ℕ, List, [], length, Ok}
 use Rattle.std.specs.List.{All}
 use Rattle.wf_model.specs.declared.registry.SourceFile.{SourceFile}
 use Rattle.wf_model.specs.declared.registry.Registry.{Registry}
@@ -8,45 +8,18 @@ use Rattle.wf_model.specs.declared.config.Config.{Config}
 use Rattle.wf_model.specs.declared.plan.Plan.{Plan}
 use Rattle.wf_model.specs.declared.plan.Item.{Item}
 use Rattle.wf_model.specs.declared.table.HookName.{HookName}
-use Rattle.wf_model.specs.Reading.{first_fault}
 use Rattle.wf_model.specs.KeptLines.{Defines}
-use Rattle.wf_model.specs.Plans.{domain_of}
 use Rattle.wf_model.specs.Registry.{registry_of}
 use Rattle.wf_model.specs.Config.{config_of}
 use Rattle.wf_model.specs.NamesOf.{names_of}
 use Rattle.wf_model.specs.Table.{table_of}
-use Rattle.wf_model.specs.PlanDomains.{integer, domain_total}
-use Rattle.wf_model.specs.PlanOf.{plan_from, plan_of}
-use Rattle.wf_model.specs.PlanTests.{domain_faults}
-use Rattle.wf_model.specs.Ranges.{Within, IsRangedDomain}
-use Rattle.wf_model.specs.Sound.{IsDomain, IsSoundNest, IsTimedNest, IsSoundFirst, IsSoundTime, IsSoundPlan, IsRangedPlan, FilesFit, CallsHooks, HasHooks}
+use Rattle.wf_model.specs.PlanOf.{plan_of}
+use Rattle.wf_model.specs.Sound.{IsSoundPlan, IsRangedPlan, FilesFit, CallsHooks, HasHooks}
 use Rattle.wf_registry_laws.specs.HookLaws.{HasUsualArity}
 use Rattle.wf_table_laws.specs.Premises.{HasRangedArity}
 use Rattle.wf_table_laws.specs.ItemLaws.{CallsNothing}
 
--- ---- premises: what laws of the config give
-
--- domains and times that are sound and in their ranges
-pub record HasSoundDomains (plan : Plan) : Type 0 where
-  pub some : 1 ≤ length plan.domains
-  pub ranged : All IsRangedDomain plan.domains
-  pub first : IsSoundFirst (domain_of plan 1)
-  pub time : IsSoundTime plan
-  pub nests : (c : ℕ) → 1 < c → IsDomain plan c → IsSoundNest plan c
-  pub timed : (c : ℕ) → 1 < c → IsDomain plan c → IsTimedNest plan c
-  pub bdy_width : Within 1 20 plan.bdy_width
-
--- of each config that a Registry and a namelist give
-pub record HasDomainLaws : Type 0 where
-  -- the number of domains isn't below 0
-  pub count : (registry : Registry) (namelist : Namelist) (config : Config) → config_of registry namelist ≡ Ok config → integer config (codes "max_dom") 1 ≡ pos (domain_total config)
-  pub domains :
-      (registry : Registry) (namelist : Namelist) (config : Config) (hooks : List HookName) (items : List Item) → config_of registry namelist ≡ Ok config
-      → first_fault (domain_faults config (plan_from config hooks items)) ≡ None → HasSoundDomains (plan_from config hooks items)
-
--- ---- an accepted plan
-
--- for stored functions
+-- what a plan keeps, where these are the stored functions
 pub record IsAcceptedPlan (hooks : List HookName) (plan : Plan) : Type 0 where
   pub sound : IsSoundPlan plan
   pub ranged : IsRangedPlan plan
@@ -60,12 +33,12 @@ pub record IsAcceptedPlan (hooks : List HookName) (plan : Plan) : Type 0 where
 -- the plan of a Registry, a namelist and a table, where calls have at most 8 arguments
 abbrev pub PlansWithHooksAreSound : Type 0
 PlansWithHooksAreSound =
-    HasDomainLaws → (files : List SourceFile) (defines : Defines) (registry : Registry) (namelist : Namelist) (config : Config) (hooks : List HookName)
+    (files : List SourceFile) (defines : Defines) (registry : Registry) (namelist : Namelist) (config : Config) (hooks : List HookName)
     (text : List ℕ) (items : List Item) (plan : Plan)
     → registry_of files defines ≡ Ok registry → config_of registry namelist ≡ Ok config → All HasRangedArity hooks
     → table_of text (names_of config hooks) ≡ Ok items → plan_of config hooks items ≡ Ok plan → IsAcceptedPlan hooks plan
 
--- without stored functions
+-- what it keeps without stored functions
 pub record IsSoundSinglePlan (plan : Plan) : Type 0 where
   pub sound : IsSoundPlan plan
   pub ranged : IsRangedPlan plan
@@ -76,7 +49,7 @@ pub record IsSoundSinglePlan (plan : Plan) : Type 0 where
 -- the plan of a Registry, a namelist and a table, until stored functions are built
 abbrev pub AcceptedPlansAreSound : Type 0
 AcceptedPlansAreSound =
-    HasDomainLaws → (files : List SourceFile) (defines : Defines) (registry : Registry) (namelist : Namelist) (config : Config)
+    (files : List SourceFile) (defines : Defines) (registry : Registry) (namelist : Namelist) (config : Config)
     (text : List ℕ) (items : List Item) (plan : Plan)
     → registry_of files defines ≡ Ok registry → config_of registry namelist ≡ Ok config
     → table_of text (names_of config []) ≡ Ok items → plan_of config [] items ≡ Ok plan → IsSoundSinglePlan plan
