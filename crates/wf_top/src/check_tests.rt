@@ -139,23 +139,30 @@ fn table_refusals(rt: HostRuntime) -> Result<(), Fail> {
 fn plan_refusals(rt: HostRuntime) -> Result<(), Fail> {
     let rows = [
         (
-            "e_we = 4, e_sn = 4, max_dom = 2,",
+            "e_we = 2*4, e_sn = 2*4, e_vert = 2*2, max_dom = 2,",
             "plan NotBuilt max_dom\n",
         ),
         (
-            "e_we = 4, e_sn = 4,\n/\n&time_control start_month = 2, start_day = 30",
+            "e_we = 4, e_sn = 4, e_vert = 2,\n/\n&time_control restart = .true.",
+            "plan NotBuilt restart\n",
+        ),
+        (
+            "e_we = 4, e_sn = 4, e_vert = 2,\n/\n&time_control start_month = 2, start_day = 30",
             "plan BadDate 1\n",
         ),
-        ("e_we = 4, e_sn = 4, time_step = 7,", "plan RunNotSteps\n"),
         (
-            "e_we = 4, e_sn = 4, time_step = 90,\n/\n&time_control run_minutes = 3",
+            "e_we = 4, e_sn = 4, e_vert = 2, time_step = 7,",
+            "plan RunNotSteps\n",
+        ),
+        (
+            "e_we = 4, e_sn = 4, e_vert = 2, time_step = 90,\n/\n&time_control run_minutes = 3",
             "plan IntervalNotSteps 1 0\n",
         ),
     ];
     for (line, wanted) in rows {
         let left = check(rt.alloc(), REGISTRY, line, TABLE)?;
-        assert_eq!(rt; left.status, 4, "{line}");
         assert_eq!(rt; left.sink.bytes(), wanted.as_bytes(), "{line}");
+        assert_eq!(rt; left.status, 4, "{line}");
     }
     Ok(())
 }
