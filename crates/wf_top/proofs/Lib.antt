@@ -8,4 +8,3 @@ pub mod PatchLaws
 pub mod RangeLaws
 pub mod RecordLaws
 pub mod ValueLaws
-pub mod CheckLaws

@@ -5,4 +5,3 @@ pub mod DemoHeader
 pub mod Ends
 pub mod Told
 pub mod Limits
-pub mod Checks

@@ -2,8 +2,6 @@
 #![tactic(auto)]
 
 mod cells;
-mod check_text;
-mod checks;
 mod frames;
 mod header;
 mod memory;
@@ -18,7 +16,5 @@ mod writes;
 
 pub use top::tool_main;
 
-#[cfg(test)]
-mod check_tests;
 #[cfg(test)]
 mod tests;
