@@ -8,3 +8,4 @@ pub mod PatchLaws
 pub mod RangeLaws
 pub mod RecordLaws
 pub mod ValueLaws
+pub mod CheckLaws

@@ -5,3 +5,4 @@ pub mod DemoHeader
 pub mod Ends
 pub mod Told
 pub mod Limits
+pub mod Checks

@@ -2,6 +2,8 @@
 #![tactic(auto)]
 
 mod cells;
+mod check_text;
+mod checks;
 mod frames;
 mod header;
 mod memory;
@@ -16,5 +18,7 @@ mod writes;
 
 pub use top::tool_main;
 
+#[cfg(test)]
+mod check_tests;
 #[cfg(test)]
 mod tests;

@@ -33,10 +33,10 @@ const FAILED: &str = "store wrfout_d01_2000-01-01_00:00:00\n";
 
 /// What a command left: its status, what it printed, and the store.
 #[derive(Drop)]
-struct Left {
-    status: u8,
-    sink: MemSink,
-    store: MemStore,
+pub(crate) struct Left {
+    pub(crate) status: u8,
+    pub(crate) sink: MemSink,
+    pub(crate) store: MemStore,
 }
 
 fn words(alloc: Global, line: &str) -> Result<Vec<String>, AllocError> {
@@ -49,7 +49,7 @@ fn words(alloc: Global, line: &str) -> Result<Vec<String>, AllocError> {
     Ok(words)
 }
 
-fn run(
+pub(crate) fn run(
     alloc: Global,
     line: &str,
     mut store: MemStore,

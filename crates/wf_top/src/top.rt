@@ -8,13 +8,15 @@ ghost use Rattle.wf_model.specs.Demo.{demo_file, demo_calls, demo_summary, demo_
 ghost use Rattle.wf_top.specs.Limits.{InLimits};
 ghost use Rattle.wf_model.specs.Failed.{Failed};
 ghost use Rattle.wf_top.specs.Ends.{Said, Ended};
+ghost use Rattle.wf_top.specs.Checks.{ToolEnded};
 
+use crate::checks::end_check;
 use crate::frames::write_file;
 use crate::header::demo_header;
 use crate::patches::Patches;
 use crate::say::say;
 use crate::text::{demo_text, too_many_patches};
-use crate::words::read_words;
+use crate::words::{is_check, read_words};
 use std::alloc::Global;
 use wf_io::{IoError, Sink, Store};
 use wf_model::Demo;
@@ -72,32 +74,52 @@ fn end_demo<S: Store, O: Sink>(alloc: Global, demo: &Demo, store: &mut S, out: &
     }
 }
 
-/// Runs a command of `wrftool` and gives its status.
-///
-/// `words` are those after the program's name. The commands are `demo NX NY STEPS PX [--memory]`: a built-in field of NX
-/// by NY points, from 1 to 200 each, is stepped STEPS times, from 0 to 100, on PX column patches, from 1 to 256, and
-/// written frame by frame to the file `wrfout_d01_2000-01-01_00:00:00` of the store.
-///
-/// The statuses are this project's own:
-/// - 0: the files are written; the text is the summary, and a line on each patch's memory or one on all.
-/// - 1: the words are no command; the text is the usage line.
-/// - 7: there are more patches than columns; the text says so.
-/// - 9: a call of the store failed, which the store counted; no call followed it. The text names the file.
-/// - 10: want of memory.
-/// - 11: the sink failed, which it counted; this takes the place of the status that the text was put for.
-///
-/// The store is as it was after 1 and 7. After 9, 10 and 11 a first part of the calls of a whole run was made.
-pub fn tool_main<S: Store, O: Sink>(
-    alloc: Global,
-    words: &[String],
-    store: &mut S,
-    out: &mut O,
-) -> u8
+// Runs a command that is not `check`.
+fn end_other<S: Store, O: Sink>(alloc: Global, words: &[String], store: &mut S, out: &mut O) -> u8
     ensures { Ended (tool_answer (map string_bytes words.now)) (S.files store.old) (S.files store.new) (S.faults store.old) (S.faults store.new) (S.failed store.new)
         (λ status text. Said status text (O.taken out.old) (O.taken out.new) (O.faults out.old) (O.faults out.new) result) }
 {
     match read_words(words) {
         None => say(out, b"usage: wrftool COMMAND [WORDS]\n", 1),
         Some(demo) => end_demo(alloc, &demo, store, out),
+    }
+}
+
+/// Runs a command of `wrftool` and gives its status.
+///
+/// `words` are those after the program's name. The commands are:
+/// - `demo NX NY STEPS PX [--memory]`: a built-in field of NX by NY points, from 1 to 200 each, is stepped STEPS times, from
+///   0 to 100, on PX column patches, from 1 to 256, and written frame by frame to the file `wrfout_d01_2000-01-01_00:00:00`
+///   of the store.
+/// - `check [--define LIST]`: the files `Registry`, with the includes that it wants, `namelist.input` and `stencil.table` of
+///   the store are read and judged, with the names of LIST, `NAME=VALUE,NAME=VALUE`, defined for the Registry's ifdefs, and
+///   the plan that they ask for is tested.
+///
+/// The statuses are this project's own:
+/// - 0: of `demo`, the files are written; the text is the summary, and a line on each patch's memory or one on all. Of
+///   `check`, nothing is refused; the text is a line `field NAME` for each active field level, and `read`.
+/// - 1: the words are no command; the text is the usage line.
+/// - 2, 3, 4: the Registry, the namelist or the config, the table or the plan is refused; the text says what is wrong and
+///   where.
+/// - 7: there are more patches than columns; the text says so.
+/// - 9: a call of the store failed, which the store counted; no call followed it. The text names the file.
+/// - 10: want of memory.
+/// - 11: the sink failed, which it counted; this takes the place of the status that the text was put for.
+///
+/// `check` leaves the files of the store as they were, and so do 1 and 7. After 9, 10 and 11 of `demo` a first part of the
+/// calls of a whole run was made.
+pub fn tool_main<S: Store, O: Sink>(
+    alloc: Global,
+    words: &[String],
+    store: &mut S,
+    out: &mut O,
+) -> u8
+    ensures { ToolEnded (map string_bytes words.now) (S.files store.old) (S.files store.new) (S.faults store.old) (S.faults store.new) (S.failed store.new)
+        (λ status text. Said status text (O.taken out.old) (O.taken out.new) (O.faults out.old) (O.faults out.new) result) }
+{
+    if is_check(words) {
+        end_check(alloc, words, store, out)
+    } else {
+        end_other(alloc, words, store, out)
     }
 }

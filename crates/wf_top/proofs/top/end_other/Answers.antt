@@ -4,7 +4,7 @@ use Rattle.wf_model.specs.Demo.{usage, tool_answer}
 use Rattle.wf_model.proofs.StoreRunLaws.{ran_none}
 use Rattle.wf_top.specs.Ends.{Said, Ended}
 use Rattle.wf_top.proofs.EndLaws.{usage_is, asked_is, ended_whole}
-use Rattle.wf_top.proofs.top.tool_main.Goals as goal
+use Rattle.wf_top.proofs.top.end_other.Goals as goal
 
 pub returns-in-None : goal.returns-in-None
 returns-in-None g c =

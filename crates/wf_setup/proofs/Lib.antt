@@ -1,0 +1,7 @@
+pub mod Lines
+pub mod Steps
+pub mod WantedFiles
+pub mod Stores
+pub mod ConfigChain
+pub mod Faults
+pub mod CaseChain

@@ -1,0 +1,5 @@
+pub mod Words
+pub mod Errors
+pub mod Asked
+pub mod Steps
+pub mod Cases

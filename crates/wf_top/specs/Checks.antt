@@ -1,0 +1,80 @@
+-- What `check` answers until the halo check is made of the plan, and how it ends.
+use Rattle.std.specs.Prelude.{◌≡◌, ◌⊎◌, ℕ, Bool, true, false, List, [], ◌∷◌, ◌++◌, flat_map, Option, Some, Result, Ok, Err, Contains, codes}
+use Rattle.std.specs.Str.{bytes_eq}
+use Rattle.wf_io.specs.Files.{Told, Rose}
+use Rattle.wf_model.specs.declared.config.Config.{Config}
+use Rattle.wf_model.specs.Letters.{Text}
+use Rattle.wf_model.specs.KeptLines.{Defines}
+use Rattle.wf_model.specs.NamesOf.{names_of}
+use Rattle.wf_model.specs.Files.{Files}
+use Rattle.wf_model.specs.Refusals.{Refusal, line}
+use Rattle.wf_model.specs.Answer.{Answer, after}
+use Rattle.wf_model.specs.Demo.{word_at, usage, tool_answer}
+use Rattle.wf_words.specs.Check.{check_words}
+use Rattle.wf_setup.specs.declared.cases.Case.{Case}
+use Rattle.wf_setup.specs.Cases.{case_read}
+use Rattle.wf_setup.specs.Asked.{case_names}
+use Rattle.wf_top.specs.Ends.{Ended, store_text, memory_text}
+
+-- ---- the answer
+
+-- the line of an active field level
+abbrev pub field_line : Text × Bool → Text
+field_line level = line (codes "field" ∷ level.0 ∷ [])
+
+-- the active field levels in order, and that all was read
+abbrev pub read_text : Config → Text
+read_text config = flat_map field_line (names_of config []).levels ++ line (codes "read" ∷ [])
+
+-- the answer to what was read: a refusal, or the text. It has no calls
+abbrev pub read_answer : Result Case Refusal → Answer
+read_answer read = after read λ case. record { status = 0; text = read_text case.config; calls = [] }
+
+-- what `check` answers with these files
+abbrev pub check_answer : Files → Defines → Answer
+check_answer files defines = read_answer (case_read files defines)
+
+-- ---- how it ends: the files of the store stay. `Says status text` is `Said` of the sink and the status that came out
+
+-- the answer was said. With files that the store tells it is theirs, and else that of some reading
+pub record CheckAnswered (defines : Defines) (old new : Option Files) (Says : ℕ → List ℕ → Type 0) : Type 0 where
+  pub read : Result Case Refusal
+  pub is : (m : Files) → old ≡ Some m → read ≡ case_read m defines
+  pub files : Told old new (λ m n. n ≡ m)
+  pub said : Says (read_answer read).status (read_answer read).text
+
+-- a call of the store failed, and the store counted it: it was the last call, on a file that the command reads, and the
+-- text names it
+pub record CheckFailed (defines : Defines) (old new : Option Files) (before after : ℕ) (failed : List ℕ) (Says : ℕ → List ℕ → Type 0) : Type 0 where
+  pub counted : Rose before after
+  pub name : (m : Files) → old ≡ Some m → Contains (case_names m defines) failed
+  pub files : Told old new (λ m n. n ≡ m)
+  pub said : Says 9 (store_text failed)
+
+-- memory was wanting
+pub record CheckLacked (old new : Option Files) (Says : ℕ → List ℕ → Type 0) : Type 0 where
+  pub files : Told old new (λ m n. n ≡ m)
+  pub said : Says 10 memory_text
+
+abbrev pub CheckEnded : Defines → Option Files → Option Files → ℕ → ℕ → List ℕ → (ℕ → List ℕ → Type 0) → Type 0
+CheckEnded defines old new before after failed Says =
+    CheckAnswered defines old new Says ⊎ (CheckFailed defines old new before after failed Says ⊎ CheckLacked old new Says)
+
+-- by the words after the command
+abbrev pub CheckWordsEnded : Result Defines (Unit {0}) → Option Files → Option Files → ℕ → ℕ → List ℕ → (ℕ → List ℕ → Type 0) → Type 0
+CheckWordsEnded (Ok defines) old new before after failed Says = CheckEnded defines old new before after failed Says
+CheckWordsEnded (Err none) old new before after failed Says = Ended usage old new before after failed Says
+
+-- ---- any command
+
+-- the first word is `check`
+abbrev pub is_check : List Text → Bool
+is_check words = bytes_eq (word_at words 0) (codes "check")
+
+abbrev pub EndedAs : Bool → List Text → Option Files → Option Files → ℕ → ℕ → List ℕ → (ℕ → List ℕ → Type 0) → Type 0
+EndedAs true words old new before after failed Says = CheckWordsEnded (check_words words) old new before after failed Says
+EndedAs false words old new before after failed Says = Ended (tool_answer words) old new before after failed Says
+
+-- how a command ends, by its words
+abbrev pub ToolEnded : List Text → Option Files → Option Files → ℕ → ℕ → List ℕ → (ℕ → List ℕ → Type 0) → Type 0
+ToolEnded words = EndedAs (is_check words) words
