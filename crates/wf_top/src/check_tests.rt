@@ -178,6 +178,39 @@ fn read_past_the_edge_is_refused(rt: HostRuntime) -> Result<(), Fail> {
 }
 
 #[test]
+fn limits_of_a_plan(rt: HostRuntime) -> Result<(), Fail> {
+    let layers = "state integer c ikj misc 1 - rh\n";
+    let constant = "dimspec l 2 constant=128 z layers\nstate integer c ilj misc 1 Z rh\n";
+    let long = "e_we = 4, e_sn = 4, e_vert = 2,\n/\n&time_control run_days = 1000";
+    let late =
+        "e_we = 4, e_sn = 4, e_vert = 2,\n/\n&time_control start_year = 9999, start_month = 12, start_day = 31, run_hours = 24";
+    let rows = [
+        ("", late, TABLE, "plan PastYear9999\n"),
+        (
+            layers,
+            SIZES,
+            "phase q writes c = c[0,1,0]\n",
+            "plan ReadPastLevels q c\n",
+        ),
+        (constant, SIZES, TABLE, "plan Limit Extent 129\n"),
+        (
+            layers,
+            "e_we = 2000, e_sn = 2000, e_vert = 14,",
+            TABLE,
+            "plan Limit Cells 59940015\n",
+        ),
+        ("", long, TABLE, "plan Limit Script 4320004\n"),
+    ];
+    for (entries, line, table, wanted) in rows {
+        let registry = format!(in rt.alloc(); "{REGISTRY}{entries}")?;
+        let left = check(rt.alloc(), registry.as_str(), line, table)?;
+        assert_eq!(rt; left.sink.bytes(), wanted.as_bytes(), "{wanted}");
+        assert_eq!(rt; left.status, 4, "{wanted}");
+    }
+    Ok(())
+}
+
+#[test]
 fn missing_files(rt: HostRuntime) -> Result<(), Fail> {
     let mut store = MemStore::new(rt.alloc());
     store.place("Registry", REGISTRY.as_bytes())?;
