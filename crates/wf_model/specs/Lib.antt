@@ -72,3 +72,4 @@ pub mod Demo
 pub mod ListLends
 pub mod Turns
 pub mod Agreement
+pub mod SoundRun
