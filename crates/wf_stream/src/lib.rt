@@ -1,0 +1,10 @@
+//! The files of a run: what it begins with, read, and its frames, written.
+#![tactic(auto)]
+
+mod frames;
+mod input;
+mod writer;
+
+pub use frames::Frames;
+pub use input::{InputError, read_input};
+pub use writer::{StreamError, Totals, Writer};
