@@ -5,3 +5,4 @@ pub mod Filled
 pub mod Stepped
 pub mod Takeable
 pub mod Held
+pub mod RunEnds

@@ -6,6 +6,7 @@
 mod extents;
 mod item;
 mod phase;
+mod stepping;
 mod surroundings;
 mod whole;
 
