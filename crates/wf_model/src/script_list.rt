@@ -8,7 +8,7 @@
 ghost use Rattle.std.specs.Prelude.{◌≡◌, ◌+◌, ◌*◌, ◌^◌, ◌<◌, ◌≤◌, ◌==◌, ◌||◌, nat_lt, ◌++◌, ◌∷◌, [], length, OnOk, IfOk, if◌then◌else◌, flat_map};
 ghost use Rattle.std.specs.List.{range_with_len};
 ghost use Rattle.wf_model.specs.Plans.{begin_of, domain_of, domains_of};
-ghost use Rattle.wf_model.specs.Script.{begin_time, due_frames, has_started_by, interval, is_due, not_before, restart_frames, script_of, start_frames, starts, starts_at, step_of, steps_by, table};
+ghost use Rattle.wf_model.specs.Script.{begin_time, due_frames, entry, has_started_by, interval, is_due, not_before, restart_frames, script_of, start_frames, starts, starts_at, step_of, steps_by, table};
 ghost use Rattle.wf_model.specs.ScriptParts.{IsCounted, is_nest_of, nest_start, nest_step};
 ghost use Rattle.wf_model.specs.Sound.{IsDomain};
 
@@ -43,6 +43,18 @@ fn is_due_after(interval: u64, step: u64) -> bool
     ensures { result ≡ is_due interval step }
 {
     interval != 0 && step % interval == 0
+}
+
+/// An item of a domain, in a step, at a time.
+fn entry_of(domain: u32, step: u64, time: u64, act: Act) -> Entry
+    ensures { result ≡ entry domain step time act }
+{
+    Entry {
+        domain,
+        step,
+        time,
+        act,
+    }
 }
 
 /// Adds an item where it is wanted.
@@ -108,6 +120,38 @@ impl ScriptSource<'_> {
         self.domain(number).intervals.as_slice()[stream as usize]
     }
 
+    /// Whether a domain is a nest of another one.
+    fn is_nest(&self, number: u32, nest: u32) -> bool
+        requires { IsDomain self.now.plan.now nest }
+        ensures { result ≡ is_nest_of self.now.plan.now number nest }
+    {
+        1 < nest && self.domain(nest).parent == number
+    }
+
+    /// Whether a nest starts at this time. One that resumed has started before.
+    fn is_starting(&self, nest: u32, time: u64) -> bool
+        requires { IsDomain self.now.plan.now nest }
+        ensures { result ≡ starts_at self.now.plan.now self.now.begins.now nest time }
+    {
+        !self.begin(nest).resumed && self.begin_of_steps(nest) == time
+    }
+
+    /// Whether a nest has started by this time.
+    fn has_started(&self, nest: u32, time: u64) -> bool
+        requires { IsDomain self.now.plan.now nest }
+        ensures { result ≡ has_started_by self.now.plan.now self.now.begins.now nest time }
+    {
+        self.begin(nest).resumed || self.begin_of_steps(nest) <= time
+    }
+
+    /// Whether a domain has a restart frame at a time: it resumed, or began before.
+    fn is_there(&self, number: u32, time: u64) -> bool
+        requires { IsDomain self.now.plan.now number }
+        ensures { result ≡ ((begin_of self.now.begins.now number).resumed || nat_lt (begin_time self.now.plan.now self.now.begins.now number) time) }
+    {
+        self.begin(number).resumed || self.begin_of_steps(number) < time
+    }
+
     /// A frame of each stream that a domain uses, at its start.
     fn push_start_frames(
         &self,
@@ -120,13 +164,9 @@ impl ScriptSource<'_> {
             ++ start_frames self.now.plan.now self.now.begins.now number time) }
     {
         for stream in 0..STREAMS {
-            let frame = Entry {
-                domain: number,
-                step: 0,
-                time,
-                act: Act::Emit(stream),
-            };
-            push_if(entries, 0 < self.stream_interval(number, stream), frame)?;
+            let wanted = 0 < self.stream_interval(number, stream);
+            let frame = entry_of(number, 0, time, Act::Emit(stream));
+            push_if(entries, wanted, frame)?;
         }
         Ok(())
     }
@@ -144,13 +184,8 @@ impl ScriptSource<'_> {
             ++ due_frames self.now.plan.now self.now.begins.now number step time) }
     {
         for stream in 0..STREAMS {
-            let frame = Entry {
-                domain: number,
-                step,
-                time,
-                act: Act::Emit(stream),
-            };
             let wanted = is_due_after(self.stream_interval(number, stream), step);
+            let frame = entry_of(number, step, time, Act::Emit(stream));
             push_if(entries, wanted, frame)?;
         }
         Ok(())
@@ -168,23 +203,10 @@ impl ScriptSource<'_> {
             ++ table self.now.plan.now self.now.begins.now number step time) }
     {
         let count = self.plan.items.as_slice().len() as u32;
-        for item in 0..count {
-            entries.push(Entry {
-                domain: number,
-                step,
-                time,
-                act: Act::Table(item),
-            })?;
+        for place in 0..count {
+            entries.push(entry_of(number, step, time, Act::Table(place)))?;
         }
         Ok(())
-    }
-
-    /// Whether a domain has a restart frame at a time: it resumed, or began before.
-    fn is_there(&self, number: u32, time: u64) -> bool
-        requires { IsDomain self.now.plan.now number }
-        ensures { result ≡ ((begin_of self.now.begins.now number).resumed || nat_lt (begin_time self.now.plan.now self.now.begins.now number) time) }
-    {
-        self.begin(number).resumed || self.begin_of_steps(number) < time
     }
 
     /// A restart frame of each domain that has started, where they are due after this step of a domain, and it is
@@ -207,23 +229,11 @@ impl ScriptSource<'_> {
             return Ok(());
         }
         for domain in 1..self.domain_count() + 1 {
-            let frame = Entry {
-                domain,
-                step: self.steps_behind(domain, time),
-                time,
-                act: Act::Emit(RESTART_STREAM),
-            };
+            let steps = self.steps_behind(domain, time);
+            let frame = entry_of(domain, steps, time, Act::Emit(RESTART_STREAM));
             push_if(entries, self.is_there(domain, time), frame)?;
         }
         Ok(())
-    }
-
-    /// Whether a domain is a nest of another one.
-    fn is_nest(&self, number: u32, nest: u32) -> bool
-        requires { IsDomain self.now.plan.now nest }
-        ensures { result ≡ is_nest_of self.now.plan.now number nest }
-    {
-        1 < nest && self.domain(nest).parent == number
     }
 
     /// The start of a domain and its frames, where it is a nest of another one that starts at this time.
@@ -244,29 +254,8 @@ impl ScriptSource<'_> {
         if !self.is_starting(nest, time) {
             return Ok(());
         }
-        entries.push(Entry {
-            domain: nest,
-            step: 0,
-            time,
-            act: Act::Start,
-        })?;
+        entries.push(entry_of(nest, 0, time, Act::Start))?;
         self.push_start_frames(entries, nest, time)
-    }
-
-    /// Whether a nest starts at this time. One that resumed has started before.
-    fn is_starting(&self, nest: u32, time: u64) -> bool
-        requires { IsDomain self.now.plan.now nest }
-        ensures { result ≡ starts_at self.now.plan.now self.now.begins.now nest time }
-    {
-        !self.begin(nest).resumed && self.begin_of_steps(nest) == time
-    }
-
-    /// Whether a nest has started by this time.
-    fn has_started(&self, nest: u32, time: u64) -> bool
-        requires { IsDomain self.now.plan.now nest }
-        ensures { result ≡ has_started_by self.now.plan.now self.now.begins.now nest time }
-    {
-        self.begin(nest).resumed || self.begin_of_steps(nest) <= time
     }
 
     /// The nests of a domain that start at this time, in order of number.
@@ -355,19 +344,10 @@ impl ScriptSource<'_> {
         if !self.has_started(nest, time) {
             return Ok(());
         }
-        entries.push(Entry {
-            domain: nest,
-            step: self.steps_behind(nest, time) + 1,
-            time,
-            act: Act::Force,
-        })?;
+        let own_step = self.steps_behind(nest, time) + 1;
+        let feedback = entry_of(nest, step, time, Act::Feedback);
+        entries.push(entry_of(nest, own_step, time, Act::Force))?;
         self.push_nest_steps(entries, depth, nest, time)?;
-        let feedback = Entry {
-            domain: nest,
-            step,
-            time,
-            act: Act::Feedback,
-        };
         push_if(entries, self.plan.feedback, feedback)
     }
 
@@ -392,17 +372,6 @@ impl ScriptSource<'_> {
         Ok(())
     }
 
-    /// All items of the run.
-    pub fn script(&self, alloc: Global) -> Result<Vec<Entry>, AllocError>
-        requires { self.now.plan.now.steps * (domain_of self.now.plan.now 1).seconds ≤ 2 ^ 62 }
-        ensures { IfOk result (λ v. v.items ≡ script_of self.now.plan.now self.now.begins.now) }
-    {
-        let mut entries = Vec::new(alloc);
-        self.push_first_start(&mut entries)?;
-        self.push_steps(&mut entries)?;
-        Ok(entries)
-    }
-
     /// The frames at domain 1's start, unless it resumed.
     fn push_first_start(&self, entries: &mut Vec<Entry>) -> Result<(), AllocError>
         ensures { OnOk result (entries.new.items ≡ entries.old.items
@@ -425,5 +394,16 @@ impl ScriptSource<'_> {
             self.push_step(entries, self.domain_count(), 1, n * seconds)?;
         }
         Ok(())
+    }
+
+    /// All items of the run.
+    pub fn script(&self, alloc: Global) -> Result<Vec<Entry>, AllocError>
+        requires { self.now.plan.now.steps * (domain_of self.now.plan.now 1).seconds ≤ 2 ^ 62 }
+        ensures { IfOk result (λ v. v.items ≡ script_of self.now.plan.now self.now.begins.now) }
+    {
+        let mut entries = Vec::new(alloc);
+        self.push_first_start(&mut entries)?;
+        self.push_steps(&mut entries)?;
+        Ok(entries)
     }
 }

@@ -1,9 +1,10 @@
-use Rattle.std.proofs.Common.{◌≡◌, ◌+◌, ◌-◌, ◌*◌, ◌++◌, ◌∷◌, [], length, List, ℕ, ap, sym, ◌∙◌, arith}
+use Rattle.std.proofs.Common.{◌≡◌, ◌+◌, ◌-◌, ◌*◌, ◌++◌, ◌∷◌, [], length, ℕ, ap, sym, ◌∙◌, arith}
 use Rattle.std.proofs.lemmas.List.{append-nil}
 use Rattle.std.proofs.lemmas.Result.{on_ok_weaker}
 use Rattle.std.specs.Prelude.{flat_map, ◌==◌, if◌then◌else◌}
 use Rattle.std.specs.List.{range_with_len}
 use Rattle.wf_model.specs.declared.plan.Domain.{Domain}
+use Rattle.wf_model.specs.declared.script.Entry.{Entry}
 use Rattle.wf_model.specs.declared.script.Act.TheVariants.{Force, Feedback}
 use Rattle.wf_model.specs.Plans.{domain_of, domains_of}
 use Rattle.wf_model.specs.Script.{due_frames, entry, restart_frames, starts, step_of, table}
@@ -59,13 +60,14 @@ push_nest-returns t c =
     let plan = c.args.self.now.plan.now in
     let begins = c.args.self.now.begins.now in
     let nest = c.args.nest in
-    let number = c.steps_behind.result + 1 in
+    let number = c.steps_behind-own_step.result + 1 in
     on_ok_weaker c.push_if.result
     (λ feedback. three_parts _ _ _ _ (entry nest number c.args.time Force)
     (flat_map (λ n. step_of plan begins c.args.depth nest (c.args.time + n * (domain_of plan nest).seconds)) (range_with_len 0 (domain_of plan nest).time_ratio))
     (if plan.feedback then entry nest c.args.step c.args.time Feedback ∷ [] else []) (nest_step plan begins c.args.depth c.args.number c.args.step c.args.time nest)
-    c.in_ok-push.ensures.items c.in_ok-push_nest_steps.ensures feedback
-    (nest_step_is plan begins c.args.depth c.args.number c.args.step c.args.time nest number (sym c.if-not-is_nest.ensures) (sym c.if-not-has_started.ensures) (ap (λ n. n + 1) c.steps_behind.ensures.value)))
+    (c.in_ok-push.ensures.items ∙ ap (λ (e : Entry). c.args.entries.now.items ++ e ∷ []) c.entry_of.ensures) c.in_ok-push_nest_steps.ensures
+    (feedback ∙ ap (λ (e : Entry). c.push_nest_steps.new.entries.items ++ (if plan.feedback then e ∷ [] else [])) c.entry_of-feedback.ensures)
+    (nest_step_is plan begins c.args.depth c.args.number c.args.step c.args.time nest number (sym c.if-not-is_nest.ensures) (sym c.if-not-has_started.ensures) (ap (λ n. n + 1) c.steps_behind-own_step.ensures.value)))
     c.push_if.ensures
 
 pub push_nest_steps-loop-n-preserved : goal.push_nest_steps-loop-n-preserved

@@ -1,4 +1,4 @@
-use Rattle.std.proofs.Common.{◌≡◌, ◌++◌, ℕ, refl, ap, ◌∙◌, map, arith}
+use Rattle.std.proofs.Common.{◌≡◌, ◌++◌, ap, ◌∙◌, map, arith}
 use Rattle.std.specs.Prelude.{filter}
 use Rattle.std.specs.List.{range_with_len}
 use Rattle.wf_model.specs.declared.script.Act.TheVariants.{Emit}
@@ -11,7 +11,7 @@ loop-stream-preserved c =
     let plan = c.args.self.now.plan.now in
     let begins = c.args.self.now.begins.now in
     added_if (λ s. is_due (interval plan begins c.args.number s) c.args.step) (λ s. entry c.args.number c.args.step c.args.time (Emit s)) c.loop-stream.stream _ _ _ _ _
-    (c.is_due_after-wanted.ensures ∙ ap (λ k. is_due k c.args.step) c.stream_interval.ensures) refl c.loop-stream.invariant c.in_ok-push_if.ensures
+    (c.is_due_after-wanted.ensures ∙ ap (λ k. is_due k c.args.step) c.stream_interval.ensures) c.entry_of-frame.ensures c.loop-stream.invariant c.in_ok-push_if.ensures
 
 pub returns : goal.returns
 returns c =

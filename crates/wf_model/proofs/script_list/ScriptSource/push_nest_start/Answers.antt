@@ -1,6 +1,7 @@
-use Rattle.std.proofs.Common.{◌≡◌, ◌++◌, ◌∷◌, [], sym}
+use Rattle.std.proofs.Common.{◌++◌, ◌∷◌, [], ap, ◌∙◌, sym}
 use Rattle.std.proofs.lemmas.Result.{on_ok_weaker}
 use Rattle.wf_model.specs.declared.script.Act.TheVariants.{Start}
+use Rattle.wf_model.specs.declared.script.Entry.{Entry}
 use Rattle.wf_model.specs.Script.{entry, start_frames}
 use Rattle.wf_model.specs.ScriptParts.{nest_start}
 use Rattle.wf_model.proofs.RangeParts.{added}
@@ -19,6 +20,6 @@ returns c =
     let begins = c.args.self.now.begins.now in
     let nest = c.args.nest in
     on_ok_weaker c.push_start_frames.result
-    (λ frames. added _ (entry nest 0 c.args.time Start ∷ []) (start_frames plan begins nest c.args.time) (nest_start plan begins c.args.number c.args.time nest) _ _ c.in_ok-push.ensures.items frames
+    (λ frames. added _ (entry nest 0 c.args.time Start ∷ []) (start_frames plan begins nest c.args.time) (nest_start plan begins c.args.number c.args.time nest) _ _ (c.in_ok-push.ensures.items ∙ ap (λ (e : Entry). c.args.entries.now.items ++ e ∷ []) c.entry_of.ensures) frames
     (start_is plan begins c.args.number c.args.time nest (sym c.if-not-is_nest.ensures) (sym c.if-not-is_starting.ensures)))
     c.push_start_frames.ensures

@@ -1,4 +1,4 @@
-use Rattle.std.proofs.Common.{◌≡◌, ◌++◌, ℕ, refl, ap, ◌∙◌, map, arith}
+use Rattle.std.proofs.Common.{◌≡◌, ◌++◌, ap, ◌∙◌, map, arith}
 use Rattle.std.specs.Prelude.{filter, nat_lt}
 use Rattle.std.specs.List.{range_with_len}
 use Rattle.wf_model.specs.declared.script.Act.TheVariants.{Emit}
@@ -10,7 +10,7 @@ pub loop-stream-preserved : goal.loop-stream-preserved
 loop-stream-preserved c =
     let plan = c.args.self.now.plan.now in
     let begins = c.args.self.now.begins.now in
-    added_if (λ s. nat_lt 0 (interval plan begins c.args.number s)) (λ s. entry c.args.number 0 c.args.time (Emit s)) c.loop-stream.stream _ _ _ _ _ (ap (λ k. nat_lt 0 k) c.stream_interval.ensures) refl c.loop-stream.invariant c.in_ok-push_if.ensures
+    added_if (λ s. nat_lt 0 (interval plan begins c.args.number s)) (λ s. entry c.args.number 0 c.args.time (Emit s)) c.loop-stream.stream _ _ _ _ _ (ap (λ k. nat_lt 0 k) c.stream_interval-wanted.ensures) c.entry_of-frame.ensures c.loop-stream.invariant c.in_ok-push_if.ensures
 
 pub returns : goal.returns
 returns c =
