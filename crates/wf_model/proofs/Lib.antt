@@ -3,3 +3,5 @@ pub mod FactorRoom
 pub mod FirstPlaces
 pub mod ReadingLemmas
 pub mod StoreRunLaws
+pub mod RangeParts
+pub mod ScriptLaws

@@ -5,6 +5,7 @@ pub mod Grids
 pub mod Changes
 pub mod Nests
 pub mod Script
+pub mod ScriptParts
 pub mod Outcome
 pub mod Calendar
 pub mod Streams

@@ -23,6 +23,7 @@ mod registry;
 mod run;
 mod run_name;
 mod script;
+mod script_list;
 mod slab;
 mod table;
 mod text;
