@@ -1,5 +1,5 @@
 -- A plan that is accepted is no restart and writes no restart files, and its domain starts in time.
-use Rattle.std.proofs.Common.{◌≡◌, ◌∙◌, ℕ, zero, suc, ◌+◌, ◌*◌, ◌/◌, ◌≤◌, Bool, false, List, [], ◌∷◌, ◌++◌, length, map, take, Some, None, Ok, refl, ap, subst, arith, codes}
+use Rattle.std.proofs.Common.{◌≡◌, ◌∙◌, ℕ, zero, suc, ◌+◌, ◌*◌, ◌/◌, ◌≤◌, Bool, false, List, [], ◌∷◌, ◌++◌, map, take, Some, None, Ok, refl, ap, subst, arith, codes}
 use Rattle.std.specs.Prelude.{ℤ, pos, int_lt, slice_get, IsFalse}
 use Rattle.std.specs.List.{list_any, range_with_len}
 use Rattle.std.proofs.lemmas.Int.{ints}
@@ -22,8 +22,8 @@ use Rattle.wf_model.specs.PlanDomains.{amount, int_of, logical_of, domain_total}
 use Rattle.wf_model.specs.PlanOf.{plan_from, plan_of}
 use Rattle.wf_model.specs.PlanTests.{Unbuilt, is_above, is_set, unbuilt, unbuilt_fault, until_restart}
 use Rattle.wf_model.specs.Script.{not_before}
-use Rattle.wf_model.specs.Sound.{IsDomain, IsSoundTime}
-use Rattle.wf_config_laws.specs.RangedValues.{HasOwnValues, HasRangedValues}
+use Rattle.wf_model.specs.Sound.{IsSoundTime}
+use Rattle.wf_config_laws.specs.RangedValues.{HasRangedValues}
 use Rattle.wf_config_laws.proofs.Values.{bound_values_ranged}
 use Rattle.wf_registry_laws.proofs.Tests.{or_none, if_fails}
 use Rattle.wf_plan_laws.specs.PlanLaws.{IsSoundSinglePlan}

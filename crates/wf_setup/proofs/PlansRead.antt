@@ -1,5 +1,5 @@
 -- A case is what its texts give, since the restart rule refuses no plan that is accepted.
-use Rattle.std.proofs.Common.{◌≡◌, ◌∙◌, ℕ, Bool, true, false, ◌&&◌, ◌||◌, not, List, [], ◌∷◌, Option, Some, None, Result, Ok, Err, refl, sym, ap, subst, arith, codes}
+use Rattle.std.proofs.Common.{◌≡◌, ◌∙◌, ℕ, Bool, true, false, ◌&&◌, ◌||◌, not, List, [], ◌∷◌, Option, None, Result, Ok, Err, refl, ap, codes}
 use Rattle.std.specs.Prelude.{IsFalse, find, nat_lt, option_map}
 use Rattle.wf_model.specs.declared.registry.Registry.{Registry}
 use Rattle.wf_model.specs.declared.namelist.Namelist.{Namelist}

@@ -1,4 +1,4 @@
-use Rattle.std.proofs.Common.{◌≡◌, ◌∙◌, sym, ap, ℕ, List, [], Option, Some, codes}
+use Rattle.std.proofs.Common.{◌∙◌, ap, ℕ, List, [], Some, codes}
 use Rattle.wf_model.specs.FilesRead.{table_text}
 use Rattle.wf_model.proofs.ReadingLemmas.{Gives-along}
 use Rattle.wf_setup.specs.Errors.{refusal_of}
