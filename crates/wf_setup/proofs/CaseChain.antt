@@ -1,5 +1,5 @@
 -- The chain of config, table and plan.
-use Rattle.std.proofs.Common.{◌≡◌, ◌∙◌, ap, List, [], ◌∷◌, ◌++◌, Option, Result, Ok, Contains, codes}
+use Rattle.std.proofs.Common.{◌≡◌, ◌∙◌, ap, List, [], ◌∷◌, Option, Result, Ok, Contains, codes}
 use Rattle.std.proofs.lemmas.List.Elements.{Contains-append_left}
 use Rattle.wf_model.specs.declared.config.Config.{Config}
 use Rattle.wf_model.specs.declared.plan.Item.{Item}
@@ -12,7 +12,6 @@ use Rattle.wf_model.specs.Refusals.{Refusal, plan_refusal}
 use Rattle.wf_model.specs.PlanOf.{plan_of}
 use Rattle.wf_model.specs.FilesRead.{config_read, plan_made, table_text}
 use Rattle.wf_model.proofs.ReadingLemmas.{Fails-chain}
-use Rattle.wf_setup.specs.declared.cases.Case.{Case}
 use Rattle.wf_setup.specs.Asked.{config_names, case_names, unless_refused}
 use Rattle.wf_setup.specs.Cases.{case_read}
 use Rattle.wf_setup.proofs.ConfigChain.{second_fails, name_last}
