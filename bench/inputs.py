@@ -1,4 +1,4 @@
-"""Writes the inputs of the readers' measurements into the folder that is named: for bench/run."""
+"""Writes the inputs of the measurements of readers and of whole domains into the folder that is named: for bench/run."""
 import os
 import struct
 import sys
@@ -43,8 +43,65 @@ def numbers(side):
     return front + words(len(front) + 4) + (bytes(range(256)) * (size // 256 + 1))[:size]
 
 
+REGISTRY = """\
+dimspec i 1 standard_domain x west_east
+dimspec k 2 standard_domain z bottom_top
+dimspec j 3 standard_domain y south_north
+state integer a ij misc 1 - i0rhudf "A" "" ""
+state integer b ij misc 1 - rh "B" "" ""
+halo h24 misc 24:a,b
+"""
+
+TABLE = """\
+halo h24
+phase q writes a margin 1 1 extend 1 = (4*a[0,0,0] + a[-1,0,0] + a[1,0,0] + a[0,0,-1] + a[0,0,1]) div 8
+phase p writes b margin 2 1 = a[-1,0,0] + a[1,0,0]
+"""
+
+
+def namelist(nx, ny, steps, every):
+    """A run of so many steps of a minute, with a frame at the start and after each so many minutes; 0 for none."""
+    return (
+        "&time_control\n start_year = 2000, start_month = 1, start_day = 1,\n"
+        f" run_minutes = {steps}, history_interval = {every}, frames_per_outfile = 100,\n/\n"
+        f"&domains\n time_step = 60, max_dom = 1, e_we = {nx + 1}, e_sn = {ny + 1}, e_vert = 2,\n/\n"
+    )
+
+
+def attribute(name, kind, values):
+    count = len(values) // 4 if kind == 4 else len(values)
+    return named(name) + words(kind, count) + values + bytes(-len(values) % 4)
+
+
+def input_file(nx, ny):
+    """The input file of a whole domain: one record of A = (37(i-1) + 53(j-1)) mod 100."""
+    front = b"CDF\x01" + words(1, 10, 4) + named(b"Time") + words(0) + named(b"DateStrLen") + words(19)
+    front += named(b"west_east") + words(nx) + named(b"south_north") + words(ny)
+    front += words(12, 2) + attribute(b"START_DATE", 2, b"2000-01-01_00:00:00") + attribute(b"GRID_ID", 4, words(1))
+    front += words(11, 2) + named(b"Times") + words(2, 0, 1, 0, 0, 2, 20, 380)
+    front += named(b"A") + words(3, 0, 3, 2, 12, 5) + attribute(b"FieldType", 4, words(106))
+    front += attribute(b"MemoryOrder", 2, b"XY ") + b"".join(attribute(name, 2, b"") for name in (b"description", b"units", b"stagger"))
+    front += words(4, 4 * nx * ny, 400) + b"2000-01-01_00:00:00\0"
+    return front + words(*((37 * i + 53 * j) % 100 for j in range(ny) for i in range(nx)))
+
+
+def case(folder, nx, ny, steps, every):
+    """A folder with the four files of a run of the base table."""
+    os.makedirs(folder)
+    texts = {"Registry": REGISTRY, "stencil.table": TABLE, "namelist.input": namelist(nx, ny, steps, every)}
+    for name, text in texts.items():
+        with open(os.path.join(folder, name), "w") as file:
+            file.write(text)
+    with open(os.path.join(folder, "wrfinput_d01"), "wb") as file:
+        file.write(input_file(nx, ny))
+
+
 def main():
     os.chdir(sys.argv[1])
+    case("written", 1001, 500, 10, 5)
+    case("stepped", 1001, 500, 10, 0)
+    case("unstepped", 1001, 500, 0, 0)
+    case("small", 3, 3, 10, 5)
     for name, text in [("registry", registry(50_000)), ("registry_half", registry(25_000)), ("table", table())]:
         with open(name, "w") as file:
             file.write(text)

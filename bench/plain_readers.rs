@@ -1,5 +1,4 @@
-// Plain Rust beside the proved readers and the proved stepping of whole domains. For bench/run: prints the least
-// nanoseconds of several rounds.
+// Plain Rust beside the proved readers. For bench/run: prints the least nanoseconds of several rounds.
 use std::hint::black_box;
 use std::time::Instant;
 
@@ -11,7 +10,8 @@ fn words(text: &str) -> Vec<Vec<String>> {
 
 // ---- a table of stencil phases, by recursive descent
 
-pub enum Expr {
+#[allow(dead_code)]
+enum Expr {
     Num(i64),
     Place(u8),
     Read { field: u32, di: i32, dk: i32, dj: i32 },
@@ -135,76 +135,6 @@ fn table(text: &str) -> Vec<Expr> {
     phases
 }
 
-// ---- two phases of a whole domain, point by point
-
-struct Place<'a> {
-    fields: &'a [Vec<i32>],
-    nx: usize,
-    i: i64,
-    j: i64,
-}
-
-fn value(expr: &Expr, place: &Place) -> Option<i64> {
-    match expr {
-        Expr::Num(n) => Some(*n),
-        Expr::Place(0) => Some(place.i),
-        Expr::Place(1) => Some(place.j),
-        Expr::Place(_) => Some(1),
-        Expr::Read { field, di, dk: _, dj } => {
-            let column = usize::try_from(place.i + i64::from(*di) - 1).ok()?;
-            let row = usize::try_from(place.j + i64::from(*dj) - 1).ok()?;
-            Some(i64::from(place.fields[*field as usize][row * place.nx + column]))
-        }
-        Expr::Neg(a) => value(a, place)?.checked_neg(),
-        Expr::Add(a, b) => value(a, place)?.checked_add(value(b, place)?),
-        Expr::Sub(a, b) => value(a, place)?.checked_sub(value(b, place)?),
-        Expr::Mul(a, b) => value(a, place)?.checked_mul(value(b, place)?),
-        Expr::Div(a, n) => value(a, place)?.checked_div_euclid(*n),
-    }
-}
-
-struct Phase {
-    writes: usize,
-    margin_x: usize,
-    margin_y: usize,
-    expr: Expr,
-}
-
-fn phase(fields: &mut [Vec<i32>], scratch: &mut Vec<i32>, phase: &Phase, nx: usize, ny: usize) -> Option<()> {
-    scratch.clear();
-    for j in phase.margin_y + 1..=ny - phase.margin_y {
-        for i in phase.margin_x + 1..=nx - phase.margin_x {
-            let place = Place { fields, nx, i: i as i64, j: j as i64 };
-            scratch.push(i32::try_from(value(&phase.expr, &place)?).ok()?);
-        }
-    }
-    let mut at = 0;
-    for j in phase.margin_y..ny - phase.margin_y {
-        let width = nx - 2 * phase.margin_x;
-        let start = j * nx + phase.margin_x;
-        fields[phase.writes][start..start + width].copy_from_slice(&scratch[at..at + width]);
-        at += width;
-    }
-    Some(())
-}
-
-fn grid(nx: usize, ny: usize, steps: usize) -> i64 {
-    let start = |n: usize| ((37 * (n % nx) + 53 * (n / nx)) % 100) as i32;
-    let mut fields = vec![(0..nx * ny).map(start).collect::<Vec<i32>>(), vec![0; nx * ny]];
-    let mut scratch = Vec::with_capacity(nx * ny);
-    let expr = |text: &str| Reader { text: text.as_bytes(), at: 0 }.expr().expect("an expression");
-    let phases = [
-        Phase { writes: 0, margin_x: 1, margin_y: 1, expr: expr("(4*a[0,0,0] + a[-1,0,0] + a[1,0,0] + a[0,0,-1] + a[0,0,1]) div 8") },
-        Phase { writes: 1, margin_x: 2, margin_y: 1, expr: expr("a[-1,0,0] + a[1,0,0]") },
-    ];
-    for _ in 0..steps {
-        for one in &phases {
-            phase(&mut fields, &mut scratch, one, nx, ny).expect("no overflow");
-        }
-    }
-    fields.iter().flatten().map(|v| i64::from(*v)).sum()
-}
-
 // ---- numbers of a netCDF file
 
 fn numbers(bytes: &[u8]) -> Vec<i32> {
@@ -235,7 +165,6 @@ fn main() {
             let text = file();
             least(rounds, || drop(black_box(table(&text))))
         }
-        "grid" => least(rounds, || drop(black_box(grid(1001, 500, 10)))),
         "numbers" => {
             let bytes = std::fs::read(&words_of[2]).expect("a file");
             least(rounds, || drop(black_box(numbers(&bytes))))

@@ -13,4 +13,6 @@ pub use header::read_header;
 pub use values::{chars, slab};
 
 #[cfg(test)]
+mod library_tests;
+#[cfg(test)]
 mod tests;

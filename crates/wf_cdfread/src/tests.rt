@@ -1,3 +1,4 @@
+use crate::library_tests::{begins, lengths};
 use crate::*;
 use std::alloc::{AllocError, Global};
 use std::test::Fail;
@@ -105,6 +106,19 @@ fn demo_file(rt: HostRuntime) -> Result<(), Fail> {
     );
     let time = chars(alloc, DEMO, &header, b"Times", 19, 1)?;
     assert_eq!(rt; time.as_slice(), b"2000-01-01_00:01:00".as_slice());
+    Ok(())
+}
+
+#[test]
+fn demo_parts(rt: HostRuntime) -> Result<(), Fail> {
+    let alloc = rt.alloc();
+    let header = read_header(alloc, DEMO)?;
+    let lengths = lengths(alloc, &header)?;
+    assert_eq!(rt; lengths.as_slice(), [0, 19, 3, 3].as_slice());
+    let begins = begins(alloc, &header)?;
+    assert_eq!(rt; begins.as_slice(), [380, 400].as_slice());
+    let time = chars(alloc, DEMO, &header, b"Times", 19, 0)?;
+    assert_eq!(rt; time.as_slice(), b"2000-01-01_00:00:00".as_slice());
     Ok(())
 }
 
