@@ -1,6 +1,6 @@
 -- What each entry of the script of a sound plan keeps: its domain, its time and its stream.
-use Rattle.std.proofs.Common.{◌≡◌, ℕ, zero, suc, ◌+◌, ◌*◌, ◌<◌, ◌≤◌, ◌==◌, ◌||◌, nat_lt, if◌then◌else◌, Bool, true, false, List, [], ◌∷◌, ◌++◌, length, map, All, Some, refl, ap, sym, ◌∙◌, subst, arith}
-use Rattle.std.specs.Prelude.{slice_get, filter, flat_map}
+use Rattle.std.proofs.Common.{◌≡◌, ℕ, zero, suc, ◌+◌, ◌*◌, ◌<◌, ◌≤◌, ◌==◌, nat_lt, if◌then◌else◌, Bool, true, false, List, [], ◌∷◌, ◌++◌, length, map, All, ap, ◌∙◌, arith}
+use Rattle.std.specs.Prelude.{filter, flat_map}
 use Rattle.std.specs.List.{range_with_len}
 use Rattle.std.proofs.Math.Nat.{mul-le-mul_right, mul_comm}
 use Rattle.std.proofs.lemmas.Bool.{eqb-true, ltb-true}
@@ -11,8 +11,8 @@ use Rattle.wf_model.specs.declared.script.Act.{Act}
 use Rattle.wf_model.specs.declared.script.Act.TheVariants.{Start, Force, Feedback, Table, Emit}
 use Rattle.wf_model.specs.declared.script.Entry.{Entry}
 use Rattle.wf_model.specs.Plans.{domain_of, begin_of, domains_of, children}
-use Rattle.wf_model.specs.Script.{restart_stream, entry, starts, table, due_frames, restart_frames, interval, frames_where, start_frames, starts_at, has_started_by, steps_by, begin_time, is_due, step_of, script_of}
-use Rattle.wf_model.specs.Sound.{IsDomain, IsSoundNest, IsSoundPlan}
+use Rattle.wf_model.specs.Script.{restart_stream, entry, starts, table, restart_frames, interval, frames_where, start_frames, starts_at, has_started_by, steps_by, is_due, step_of, script_of}
+use Rattle.wf_model.specs.Sound.{IsDomain, IsSoundPlan}
 
 -- ---- facts of all elements of a list
 

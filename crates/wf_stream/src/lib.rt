@@ -1,6 +1,7 @@
 //! The files of a run: what it begins with, read, and its frames, written.
 #![tactic(auto)]
 
+mod file_name;
 mod frames;
 mod input;
 mod writer;
