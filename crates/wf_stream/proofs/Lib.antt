@@ -3,3 +3,9 @@ pub mod ScriptEntries
 pub mod SoundFrames
 pub mod FrameSteps
 pub mod NextFrame
+pub mod StoreWriteLaws
+pub mod StoreNames
+pub mod RecordLaws
+pub mod FrameCallLaws
+pub mod HeaderLaws
+pub mod WriterLaws

@@ -2,8 +2,11 @@
 #![tactic(auto)]
 
 mod file_name;
+mod frame_calls;
 mod frames;
 mod input;
+mod record;
+mod store_calls;
 mod writer;
 
 pub use frames::Frames;
