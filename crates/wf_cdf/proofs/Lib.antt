@@ -4,3 +4,4 @@ pub mod Lengths
 pub mod Placed
 pub mod Limits
 pub mod LevelLoops
+pub mod StreamSizes

@@ -1,1 +1,11 @@
-
+pub mod FrameLaws
+pub mod ScriptEntries
+pub mod SoundFrames
+pub mod FrameSteps
+pub mod NextFrame
+pub mod StoreWriteLaws
+pub mod StoreNames
+pub mod RecordLaws
+pub mod FrameCallLaws
+pub mod HeaderLaws
+pub mod WriterLaws

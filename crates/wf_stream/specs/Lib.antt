@@ -1,2 +1,4 @@
 pub mod Writing
 pub mod Inputs
+pub mod FrameCounts
+pub mod StoreWrites

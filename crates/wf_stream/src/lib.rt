@@ -1,8 +1,12 @@
 //! The files of a run: what it begins with, read, and its frames, written.
 #![tactic(auto)]
 
+mod file_name;
+mod frame_calls;
 mod frames;
 mod input;
+mod record;
+mod store_calls;
 mod writer;
 
 pub use frames::Frames;

@@ -12,6 +12,7 @@ ghost use Rattle.wf_model.specs.StoreRuns.{Ran, Stopped};
 ghost use Rattle.wf_model.specs.Writes.{frame_calls};
 ghost use Rattle.wf_stream.specs.Writing.{HasFile, label, labels, totals_of};
 
+use crate::frame_calls::write_calls;
 use std::alloc::{AllocError, Global};
 use std::marker::{Model, PhantomData};
 use wf_io::Store;
@@ -37,9 +38,9 @@ pub struct Totals {
 /// Writes the frames of a run, in script order. Contracts see how many it wrote, and the error that ended it.
 #[derive(Drop)]
 pub struct Writer<N: RunName> {
-    number: u32,
-    failed: Option<StreamError>,
+    alloc: Global,
     totals: Totals,
+    failed: Option<StreamError>,
     of: PhantomData<N>,
 }
 
@@ -49,17 +50,28 @@ impl<N: RunName> Model for Writer<N> {
 
     ghost Value = { Written };
 
-    ghost view = { λ w. record { number = w.number; failed = w.failed } };
+    ghost view = { λ w. record { number = w.totals.records; failed = w.failed } };
 
-    ghost invariant = { λ w. w.totals ≡ totals_of N.run w.number };
+    ghost invariant = { λ w. w.totals ≡ totals_of N.run w.totals.records };
 }
 
 impl<N: RunName> Writer<N> {
     /// A writer that wrote nothing.
+    #[tactic(auto, using(crate::proofs::WriterLaws::totals_none))]
     pub fn new(alloc: Global, run: &Run<'_, N>) -> Result<Writer<N>, AllocError>
         ensures { IfOk result (λ w. w ≡ record { number = 0; failed = None }) }
     {
-        Err(AllocError)
+        Ok(Writer {
+            alloc,
+            totals: Totals {
+                files: 0,
+                records: 0,
+                bytes: 0,
+                sum: 0,
+            },
+            failed: None,
+            of: PhantomData,
+        })
     }
 
     /// What the frames that were written come to.
@@ -73,9 +85,9 @@ impl<N: RunName> Writer<N> {
     /// order, and the new number of records.
     ///
     /// # Errors
-    /// `Store` where a call of the store failed, which the store counted; no call followed it. Or want of memory. A first
-    /// part of the frame's calls was then made. After an error the writer answers that error for ever, and calls nothing.
-    #[tactic(auto, using(wf_model::proofs::StoreRunLaws::stopped_none))]
+    /// `Store` where a call of the store failed, which the store counted; no call followed it. Or want of memory, as which
+    /// a total counts that would pass 64 bits. A first part of the frame's calls was then made. After an error the writer
+    /// answers that error for ever, and calls nothing.
     pub fn write_frame<S: Store>(
         &mut self,
         store: &mut S,
@@ -102,7 +114,15 @@ impl<N: RunName> Writer<N> {
         if let Some(error) = self.failed {
             return Err(error);
         }
-        self.failed = Some(StreamError::Memory);
-        Err(StreamError::Memory)
+        match write_calls(self.alloc, store, frame, slabs, run, self.totals) {
+            Ok(totals) => {
+                self.totals = totals;
+                Ok(())
+            }
+            Err(error) => {
+                self.failed = Some(error);
+                Err(error)
+            }
+        }
     }
 }
