@@ -1,1 +1,6 @@
-
+pub mod RowLemmas
+pub mod LevelLemmas
+pub mod SlabLemmas
+pub mod NameLemmas
+pub mod StartLemmas
+pub mod FaultLemmas

@@ -1,2 +1,5 @@
 pub mod Writing
 pub mod Inputs
+pub mod Slabs
+pub mod Levels
+pub mod Starts

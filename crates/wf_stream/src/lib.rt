@@ -3,6 +3,10 @@
 
 mod frames;
 mod input;
+mod input_file;
+mod levels;
+mod own_points;
+mod slabs;
 mod writer;
 
 pub use frames::Frames;
