@@ -10,7 +10,7 @@ mod values;
 
 pub use error::{HeaderError, ValuesError};
 pub use header::read_header;
-pub use values::{chars, slab};
+pub use values::{chars, find_slab, slab};
 
 #[cfg(test)]
 mod library_tests;

@@ -84,8 +84,9 @@ fn slab_part<'a>(
     part(bytes, place_of(header, var, rec), size_of_slab(shape, kind))
 }
 
-/// The same of the first variable of a name, which has this type and shape.
-fn slab_bytes<'a>(
+/// The bytes of a variable in a record, counted from 0, of this type: 2 for char, 4 for int. They are found and not read as
+/// numbers, and no memory is taken. All else is as for [`slab`].
+pub fn find_slab<'a>(
     bytes: &'a [u8],
     header: &Header,
     name: &[u8],
@@ -146,7 +147,7 @@ pub fn slab(
     ensures values { IfOk result (λ v. slab_at bytes.now header.now name.now shape.now rec ≡ Ok v.items) }
     ensures fault { IfErr result (λ e. Fails (slab_fault_of e) (slab_at bytes.now header.now name.now shape.now rec)) }
 {
-    let found = slab_bytes(bytes, header, name, INT, shape, rec)?;
+    let found = find_slab(bytes, header, name, INT, shape, rec)?;
     Ok(numbers(alloc, found)?)
 }
 
@@ -164,6 +165,6 @@ pub fn chars(
     ensures chars { IfOk result (λ v. chars_at bytes.now header.now name.now length rec ≡ Ok v.items) }
     ensures fault { IfErr result (λ e. Fails (slab_fault_of e) (chars_at bytes.now header.now name.now length rec)) }
 {
-    let found = slab_bytes(bytes, header, name, CHAR, &[length], rec)?;
+    let found = find_slab(bytes, header, name, CHAR, &[length], rec)?;
     Ok(Vec::from_slice(alloc, found)?)
 }

@@ -9,3 +9,9 @@ pub mod RecordLaws
 pub mod FrameCallLaws
 pub mod HeaderLaws
 pub mod WriterLaws
+pub mod RowLemmas
+pub mod LevelLemmas
+pub mod SlabLemmas
+pub mod NameLemmas
+pub mod StartLemmas
+pub mod FaultLemmas

@@ -5,7 +5,11 @@ mod file_name;
 mod frame_calls;
 mod frames;
 mod input;
+mod input_file;
+mod levels;
+mod own_points;
 mod record;
+mod slabs;
 mod store_calls;
 mod writer;
 
