@@ -5,7 +5,6 @@ pub mod Grids
 pub mod Changes
 pub mod Nests
 pub mod Script
-pub mod ScriptParts
 pub mod Outcome
 pub mod Calendar
 pub mod Streams
@@ -74,3 +73,4 @@ pub mod ListLends
 pub mod Turns
 pub mod Agreement
 pub mod SoundRun
+pub mod ScriptParts
