@@ -8,4 +8,5 @@ pub mod StoreNames
 pub mod RecordLaws
 pub mod FrameCallLaws
 pub mod HeaderLaws
+pub mod FileNames
 pub mod WriterLaws
