@@ -8,6 +8,7 @@ pub mod StoreNames
 pub mod RecordLaws
 pub mod FrameCallLaws
 pub mod HeaderLaws
+pub mod FileNames
 pub mod WriterLaws
 pub mod RowLemmas
 pub mod LevelLemmas

@@ -18,6 +18,7 @@ use Rattle.wf_model.specs.Writes.{record_of}
 use Rattle.wf_stream.specs.StoreWrites.{IsInRange, part_of, record_parts, with_bytes, with_frame, with_parts}
 use Rattle.wf_stream.specs.Writing.{label, labels, totals_of}
 use Rattle.wf_stream.specs.declared.writer.Totals.{Totals}
+use Rattle.wf_stream.proofs.FileNames.{file_taken}
 use Rattle.wf_stream.proofs.FrameLaws.{frame_entry, frame_number}
 use Rattle.wf_stream.proofs.SoundFrames.{frame_record-ranged, known_frame}
 
@@ -37,7 +38,7 @@ module _ (r : RunData) (n : ℕ) (frame : Frame) (is : slice_get (frames_of r) n
   pub in_range : IsSoundRun r → IsInRange r frame
   in_range run =
       let known = known_frame r run.sound n frame is in
-      record { place = (frame_entry r n frame is).within; domain = known.domain; stream = known.stream; rec = frame_record-ranged r run.sound n frame (run.ranged).domains is }
+      record { place = (frame_entry r n frame is).within; domain = known.domain; stream = known.stream; rec = frame_record-ranged r run.sound n frame (run.ranged).domains is; file = file_taken r run n frame is }
 
   -- ---- its slabs
 

@@ -1,7 +1,7 @@
 -- What calls on one file of a store leave, all made, or ended by an error.
-use Rattle.std.specs.Prelude.{◌≡◌, ℕ, ◌+◌, ◌<◌, ◌≤◌, ◌==◌, Bool, ◌||◌, List, [], ◌∷◌, length, map, fold, nat_lt, sum, Option, Some, Result, OnOk, OnErr, IsErrOf, if◌then◌else◌}
+use Rattle.std.specs.Prelude.{◌≡◌, ℕ, ◌+◌, ◌<◌, ◌≤◌, ◌==◌, Bool, ◌||◌, List, [], ◌∷◌, length, map, fold, nat_lt, sum, Option, Some, Result, OnOk, OnErr, IsErrOf, IsTrue, if◌then◌else◌}
 use Rattle.std.specs.Char.{is_ascii_alphanumeric}
-use Rattle.wf_io.specs.Files.{Rose}
+use Rattle.wf_io.specs.Files.{Rose, is_store_name}
 use Rattle.wf_io.specs.declared.store.IoError.{IoError}
 use Rattle.wf_io.specs.declared.store.IoError.TheVariants as io
 use Rattle.wf_model.specs.declared.frame.Frame.{Frame}
@@ -75,9 +75,10 @@ with_frame r t frame =
     let u = with_parts t (record_of r frame) in
     record { files = u.files + one_if frame.first; records = frame.number + 1; bytes = u.bytes; sum = u.sum }
 
--- a frame's place, domain, stream and record are within their ranges
+-- a frame's place, domain, stream and record are within their ranges, and a store takes the name of its file
 pub record IsInRange (r : RunData) (frame : Frame) : Type 0 where
   pub place : frame.place < length (script r)
   pub domain : IsDomain r.plan frame.domain
   pub stream : frame.stream ≤ restart_stream
   pub rec : frame.rec + 1 ≤ 100000
+  pub file : IsTrue (is_store_name frame.file)

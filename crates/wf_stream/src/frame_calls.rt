@@ -113,10 +113,7 @@ pub(crate) fn write_calls<S: Store, N: RunName>(
     ensures wrote { Wrote (frame_calls N.run frame.now) frame.now.file (S.files store.old) (S.files store.new) (S.faults store.old) (S.faults store.new) (S.failed store.new) result }
     ensures totals { IfOk result (λ t. t ≡ with_frame N.run totals frame.now) }
 {
-    let name = match store_name(frame.file.as_slice()) {
-        Some(name) => name,
-        None => return Err(StreamError::Memory),
-    };
+    let name = store_name(frame.file.as_slice());
     match open_file(alloc, store, name, frame, run) {
         Ok(()) => {}
         Err(error) => return Err(error),

@@ -1,40 +1,23 @@
 //! Calls of a store on one file.
 
-ghost use Rattle.std.specs.Prelude.{◌≡◌, ◌+◌, ◌<◌, ◌≤◌, ◌^◌, ◌∷◌, [], false, length, IsTrue, MatchOption, OnOk};
-ghost use Rattle.std.specs.List.{list_all};
+ghost use Rattle.std.specs.Prelude.{◌≡◌, ◌+◌, ◌<◌, ◌≤◌, ◌^◌, ◌∷◌, [], length, IsTrue, OnOk};
 ghost use Rattle.wf_io.specs.Files.{is_store_name};
 ghost use Rattle.wf_model.specs.Bytes.{four_bytes};
 ghost use Rattle.wf_model.specs.Files.{create, append, write_at};
-ghost use Rattle.wf_stream.specs.StoreWrites.{HasRoom, Wrote, is_store_byte, stream_error_of};
+ghost use Rattle.wf_stream.specs.StoreWrites.{HasRoom, Wrote, stream_error_of};
 
 use crate::writer::StreamError;
 use std::str::from_utf8;
 use wf_io::{IoError, Store};
 
-fn are_store_bytes(name: &[u8]) -> bool
-    ensures { result ≡ list_all is_store_byte name.now }
+/// The bytes of a name that a store takes, as a text.
+pub(crate) fn store_name(name: &[u8]) -> &str
+    requires { IsTrue (is_store_name name.now) }
+    ensures { result.now ≡ name.now }
 {
-    name.iter().all(|b| {
-        b.is_ascii_alphanumeric() || *b == b'_' || *b == b'-' || *b == b'.' || *b == b':'
-    })
-}
-
-fn is_store_name(name: &[u8]) -> bool
-    ensures { result ≡ is_store_name name.now }
-{
-    0 < name.len() && name.len() <= 128 && are_store_bytes(name)
-}
-
-/// The bytes as a name that a store takes.
-pub(crate) fn store_name(name: &[u8]) -> Option<&str>
-    ensures { MatchOption result (is_store_name name.now ≡ false) (λ s. (s.now ≡ name.now) × IsTrue (is_store_name name.now)) }
-{
-    if !is_store_name(name) {
-        return None;
-    }
     match from_utf8(name) {
-        Ok(name) => Some(name),
-        Err(_) => None,
+        Ok(name) => name,
+        Err(_) => unreachable!(),
     }
 }
 

@@ -1,6 +1,5 @@
 use Rattle.std.proofs.Common.{refl, ◌≡◌, ℕ, List, IfOk, ap, subst, ◌∙◌}
 use Rattle.wf_model.specs.declared.initial.Begin.{Begin}
-use Rattle.wf_model.specs.declared.header.Header.{Header}
 use Rattle.wf_model.specs.declared.plan.Plan.{Plan}
 use Rattle.wf_model.specs.Headers.{file_header}
 use Rattle.wf_stream.proofs.HeaderLaws.{header_fits, header_is, long_header}
