@@ -9,3 +9,6 @@ mod writer;
 pub use frames::Frames;
 pub use input::{InputError, read_input};
 pub use writer::{StreamError, Totals, Writer};
+
+#[cfg(test)]
+mod file_name_tests;
