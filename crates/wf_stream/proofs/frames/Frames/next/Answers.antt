@@ -5,7 +5,6 @@ use Rattle.wf_model.specs.declared.plan.Plan.{Plan}
 use Rattle.wf_model.specs.declared.script.Entry.{Entry}
 use Rattle.wf_model.specs.Frames.{frames_of, outputs_from}
 use Rattle.wf_model.specs.Outcome.{RunData}
-use Rattle.wf_stream.specs.declared.frames.Emitted.{Emitted}
 use Rattle.wf_stream.specs.declared.frames.StreamFile.{StreamFile}
 use Rattle.wf_stream.specs.FrameCounts.{IsKnownOutput, IsUnderWay, file_with, frame_in, output}
 use Rattle.wf_stream.proofs.FrameSteps.{no_frame-left}
