@@ -203,7 +203,7 @@ module _ (plan : Plan) (os : List Output) (o : Output) where
     own_is = are.each d o.stream known.domain known.stream
 
     -- its place is one of the table
-    pub at_within : at < length files
+    at_within : at < length files
     at_within = omega (arith, are.count, known.domain, known.stream)
 
     -- the files behind the output

@@ -18,4 +18,6 @@ pub use input::{InputError, read_input};
 pub use writer::{StreamError, Totals, Writer};
 
 #[cfg(test)]
+mod file_name_tests;
+#[cfg(test)]
 mod tests;
