@@ -1,6 +1,6 @@
 -- Levels read from a file.
-use Rattle.std.proofs.Common.{◌≡◌, ◌∙◌, sym, ap, ap₂, refl, subst, ℕ, zero, suc, ◌+◌, ◌-◌, ◌*◌, ◌<◌, ◌≤◌, Bool, true, false, cond, List, [], ◌∷◌, ◌++◌, map, length, replicate, get_or, Result, Ok, Err, Option, Some, None, arith}
-use Rattle.std.specs.Prelude.{ℤ, pos, find, IsOk, IsTrue, IsFalse, not, ◌&&◌, if◌then◌else◌}
+use Rattle.std.proofs.Common.{◌≡◌, ◌∙◌, sym, ap, ap₂, refl, subst, ℕ, ◌+◌, ◌-◌, ◌*◌, ◌≤◌, Bool, true, false, cond, List, [], ◌∷◌, ◌++◌, map, length, Result, Ok, Err, arith}
+use Rattle.std.specs.Prelude.{ℤ, pos, find, IsOk, IsFalse, if◌then◌else◌}
 use Rattle.std.specs.List.{range_with_len}
 use Rattle.std.proofs.Math.Nat.{mul_assoc, one-mul}
 use Rattle.std.proofs.lemmas.List.{length-replicate}
@@ -12,12 +12,12 @@ use Rattle.wf_model.specs.declared.plan.Field.{Field}
 use Rattle.wf_model.specs.declared.cdf_error.SlabError.{SlabError}
 use Rattle.wf_model.specs.CdfRead.{has_name, ints, ints_of, slab_at, slab_bytes_of}
 use Rattle.wf_model.specs.Grids.{listed, grid_from}
-use Rattle.wf_model.specs.InputOf.{Asked, slab_read, bytes_read, is_input, level_read, own_points, zeros, grids_read}
+use Rattle.wf_model.specs.InputOf.{Asked, slab_read, bytes_read, is_input, level_read, own_points, zeros}
 use Rattle.wf_model.specs.Outcome.{no_list}
 use Rattle.wf_model.specs.Plans.{domain_of, field_of, levels_of, extra, nx, ny, nz}
 use Rattle.wf_model.specs.Ranges.{IsRangedField}
 use Rattle.wf_model.specs.Sizes.{product}
-use Rattle.wf_model.specs.Streams.{file_x, file_y, one_if}
+use Rattle.wf_model.specs.Streams.{file_y, one_if}
 use Rattle.wf_stream.specs.Levels.{HasLevels, asked_in, level_begin, shape_in}
 use Rattle.wf_stream.proofs.RowLemmas.{length-listed}
 use Rattle.wf_stream.proofs.SlabLemmas.{asked_is}

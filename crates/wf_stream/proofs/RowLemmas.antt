@@ -1,9 +1,9 @@
 -- Rows of a list moved to its front, and the list of a level's own points row by row.
-use Rattle.std.proofs.Common.{◌≡◌, ◌∙◌, sym, ap, ap₂, refl, subst, ℕ, zero, suc, ◌+◌, ◌-◌, ◌*◌, ◌<◌, ◌≤◌, List, [], ◌∷◌, ◌++◌, map, length, take, drop, get_or, arith, add-one, add-zero, append_assoc, length-append}
+use Rattle.std.proofs.Common.{◌≡◌, ◌∙◌, sym, ap, ap₂, refl, ℕ, zero, suc, ◌+◌, ◌-◌, ◌*◌, ◌<◌, ◌≤◌, List, [], ◌∷◌, ◌++◌, map, length, take, drop, get_or, arith, add-one, add-zero, append_assoc, length-append}
 use Rattle.std.proofs.Math.Nat.{suc-mul, zero-mul, add-mul, mul_assoc, mul-le-mul_left, mul-le-mul_right}
-use Rattle.std.proofs.lemmas.List.{append-nil, ext_get_or, get_or-take, get_or-drop, get_or-append_right, take_at, drop_at, drop-drop, take-append-drop, length-take, length-take-le, length-drop}
+use Rattle.std.proofs.lemmas.List.{append-nil, ext_get_or, get_or-take, get_or-drop, take_at, drop_at, drop-drop, take-append-drop, length-take-le, length-drop}
 use Rattle.std.proofs.lemmas.List.Concat.{flat_map-append}
-use Rattle.std.proofs.lemmas.List.FromFn.{length-map-range_with_len, get_or-map-range_with_len, map-range_with_len_more}
+use Rattle.std.proofs.lemmas.List.FromFn.{length-map-range_with_len, get_or-map-range_with_len}
 use Rattle.std.specs.Prelude.{flat_map, ℤ, pos}
 use Rattle.std.specs.List.{range_with_len, copy_within}
 use Rattle.wf_model.specs.Plans.{up_to}

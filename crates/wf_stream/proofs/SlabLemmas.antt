@@ -1,5 +1,5 @@
 -- Variables of a file judged, kind by kind.
-use Rattle.std.proofs.Common.{◌≡◌, ◌∙◌, sym, ap, refl, subst, ℕ, zero, suc, ◌+◌, ◌<◌, Bool, true, false, cond, List, [], ◌∷◌, ◌++◌, map, length, Option, Some, None, Result, Ok, Err, arith, add-zero}
+use Rattle.std.proofs.Common.{◌≡◌, ◌∙◌, sym, ap, refl, subst, ℕ, zero, suc, ◌+◌, ◌<◌, Bool, true, false, cond, List, [], ◌∷◌, ◌++◌, map, length, None, Result, Ok, Err, arith, add-zero}
 use Rattle.std.specs.Prelude.{filter, IsOk, IsTrue, ◌||◌}
 use Rattle.std.specs.List.{list_any, range_with_len}
 use Rattle.std.proofs.Math.Bool.{or-false}
@@ -14,7 +14,7 @@ use Rattle.wf_model.specs.declared.cdf_error.SlabError.TheVariants as slab
 use Rattle.wf_model.specs.declared.plan_fault.InputKind.TheVariants as kind
 use Rattle.wf_model.specs.InputOf.{Asked, slab_read, slabs_fault, is_no_variable, is_wrong_type, is_wrong_shape, is_truncated, times, level_asked, is_input, all_slabs}
 use Rattle.wf_model.specs.Reading.{fault_if, first_fault}
-use Rattle.wf_model.specs.Plans.{domain_of, field_of, levels_of}
+use Rattle.wf_model.specs.Plans.{domain_of, field_of}
 use Rattle.wf_stream.specs.declared.slabs.SlabFaults.{SlabFaults}
 use Rattle.wf_stream.specs.Levels.{asked_in}
 use Rattle.wf_stream.specs.Slabs.{with_slab, faults_of, slabs_up_to}

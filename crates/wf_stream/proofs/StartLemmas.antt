@@ -1,5 +1,5 @@
 -- What the domains begin with, put together.
-use Rattle.std.proofs.Common.{◌≡◌, ◌∙◌, ◌⊎◌, inl, inr, ⊎_elim, sym, ap, ap₂, refl, subst, ℕ, zero, suc, ◌+◌, ◌-◌, ◌*◌, ◌<◌, ◌≤◌, Bool, true, false, cond, List, [], ◌∷◌, ◌++◌, map, length, get_or, Result, Ok, Err, Option, Some, None, IfErr, arith, append_assoc, add-zero}
+use Rattle.std.proofs.Common.{◌≡◌, ◌∙◌, ⊎_elim, sym, ap, ap₂, refl, subst, ℕ, zero, suc, ◌+◌, ◌-◌, ◌*◌, ◌<◌, ◌≤◌, Bool, true, false, cond, List, [], ◌∷◌, ◌++◌, map, length, get_or, Result, Ok, Err, Option, IfErr, arith, append_assoc, add-zero}
 use Rattle.std.specs.Prelude.{ℤ, pos, ◌≤ℤ◌, filter, IsTrue, IsFalse, Contains, ◌&&◌, ◌||◌, ◌==◌, int_le, slice_index_or}
 use Rattle.std.specs.List.{range_with_len}
 use Rattle.std.proofs.lemmas.Bool.{cases_lt}
@@ -10,18 +10,17 @@ use Rattle.wf_model.specs.declared.plan.Plan.{Plan}
 use Rattle.wf_model.specs.declared.plan_fault.InputFault.{InputFault}
 use Rattle.wf_model.specs.Dates.{is_stamp}
 use Rattle.wf_model.specs.Files.{Files}
-use Rattle.wf_model.specs.InputOf.{DomainBegin, domain_begin, fresh, initial_from, input_file, input_of, restart_file, resumed_if, started}
+use Rattle.wf_model.specs.InputOf.{DomainBegin, domain_begin, initial_from, input_file, input_of, restart_file, resumed_if, started}
 use Rattle.wf_model.specs.Letters.{Text}
 use Rattle.wf_model.specs.Outcome.{no_list, no_lists}
 use Rattle.wf_model.specs.Plans.{begin_of, domain_of, domains_of, no_begin, nx, ny, nz}
-use Rattle.wf_model.specs.Reading.{◌>>=◌, Fails, Gives, each}
+use Rattle.wf_model.specs.Reading.{◌>>=◌, Fails, each}
 use Rattle.wf_model.specs.Sound.{IsDomain, IsFittingInitial, IsLevel, IsRangedPlan, IsSoundBegin}
 use Rattle.wf_model.proofs.ReadingLemmas.{with_front, with_front-nil, each-step, Fails-each, Fails-chain, Fails-along, with_front-end}
 use Rattle.wf_stream.specs.declared.input.InputError.{InputError}
 use Rattle.wf_stream.specs.declared.input.InputError.TheVariants as input
 use Rattle.wf_stream.specs.declared.input_file.DomainStart.{DomainStart}
-use Rattle.wf_stream.specs.Inputs.{FaultAmong, fault_of, input_names}
-use Rattle.wf_stream.specs.Levels.{HasLevels}
+use Rattle.wf_stream.specs.Inputs.{FaultAmong, input_names}
 use Rattle.wf_stream.specs.Starts.{FaultOn, FitDomains, FitsDomain, begin_in}
 
 -- ---- parts of items, taken one by one

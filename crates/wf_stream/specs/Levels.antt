@@ -1,5 +1,5 @@
 -- Levels of a domain, of which only what the plan says of domain and field is known.
-use Rattle.std.specs.Prelude.{◌≡◌, ℕ, ◌+◌, ◌-◌, ◌*◌, ◌<◌, ◌≤◌, List, [], ◌∷◌, ◌++◌, length, take, drop, flat_map, ℤ, pos, replicate, if◌then◌else◌, slice_index_or}
+use Rattle.std.specs.Prelude.{◌≡◌, ℕ, ◌+◌, ◌-◌, ◌*◌, List, [], ◌∷◌, ◌++◌, length, take, drop, flat_map, ℤ, if◌then◌else◌, slice_index_or}
 use Rattle.std.specs.List.{range_with_len}
 use Rattle.wf_model.specs.declared.header.Header.{Header}
 use Rattle.wf_model.specs.declared.plan.Domain.{Domain}
@@ -7,7 +7,7 @@ use Rattle.wf_model.specs.declared.plan.Field.{Field}
 use Rattle.wf_model.specs.declared.plan.Plan.{Plan}
 use Rattle.wf_model.specs.InputOf.{Asked, asked, is_input, level_read, zeros}
 use Rattle.wf_model.specs.Outcome.{no_list}
-use Rattle.wf_model.specs.Plans.{extra, nx, ny, nz}
+use Rattle.wf_model.specs.Plans.{nx, ny, nz}
 use Rattle.wf_model.specs.Sound.{IsLevel}
 use Rattle.wf_model.specs.Streams.{one_if}
 

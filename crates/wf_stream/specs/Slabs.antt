@@ -1,11 +1,11 @@
 -- Which faults the variables of an input file have, kind by kind.
-use Rattle.std.specs.Prelude.{◌≡◌, ℕ, Bool, true, false, List, [], ◌∷◌, map, filter, Option, Some, None, Result, Ok, Err, codes}
+use Rattle.std.specs.Prelude.{ℕ, true, List, ◌∷◌, map, filter, Result, Ok, Err}
 use Rattle.std.specs.List.{list_any, range_with_len}
 use Rattle.wf_model.specs.declared.header.Header.{Header}
 use Rattle.wf_model.specs.declared.plan.Plan.{Plan}
 use Rattle.wf_model.specs.declared.cdf_error.SlabError.{SlabError}
 use Rattle.wf_model.specs.declared.cdf_error.SlabError.TheVariants as slab
-use Rattle.wf_model.specs.InputOf.{Asked, slab_read, is_no_variable, is_wrong_type, is_wrong_shape, is_truncated, times, level_asked, is_input}
+use Rattle.wf_model.specs.InputOf.{slab_read, is_no_variable, is_wrong_type, is_wrong_shape, is_truncated, times, level_asked, is_input}
 use Rattle.wf_stream.specs.declared.slabs.SlabFaults.{SlabFaults}
 
 -- with those of one variable more

@@ -1,4 +1,4 @@
-use Rattle.std.proofs.Common.{◌≡◌, ◌∙◌, sym, ap, List, map, ◌++◌}
+use Rattle.std.proofs.Common.{◌∙◌, sym, ap, List, map, ◌++◌}
 use Rattle.std.specs.Vec.Iter.{into_iter_items}
 use Rattle.wf_model.specs.declared.initial.Begin.{Begin}
 use Rattle.wf_stream.specs.declared.input_file.DomainStart.{DomainStart}

@@ -1,4 +1,4 @@
-use Rattle.std.proofs.Common.{◌≡◌, ◌∙◌, sym, ap}
+use Rattle.std.proofs.Common.{◌∙◌, sym, ap}
 use Rattle.wf_model.specs.declared.plan.Domain.{Domain}
 use Rattle.wf_stream.proofs.StartLemmas.{among_inputs}
 use Rattle.wf_stream.proofs.input.start_of_domain.Goals as goal

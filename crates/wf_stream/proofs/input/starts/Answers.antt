@@ -1,4 +1,4 @@
-use Rattle.std.proofs.Common.{◌≡◌, ◌∙◌, sym, ap, subst, List, Some, ◌+◌, ◌≤◌, ◌<◌, length, map, arith}
+use Rattle.std.proofs.Common.{◌∙◌, sym, ap, subst, List, length, map, arith}
 use Rattle.wf_model.specs.declared.plan.Domain.{Domain}
 use Rattle.wf_model.specs.InputOf.{started}
 use Rattle.wf_model.specs.Plans.{domains_of}

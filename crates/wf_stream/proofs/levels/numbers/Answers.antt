@@ -1,4 +1,4 @@
-use Rattle.std.proofs.Common.{◌≡◌, ◌∙◌, ap, refl, length, List}
+use Rattle.std.proofs.Common.{◌∙◌, ap, refl, length, List}
 use Rattle.std.specs.Prelude.{ℤ}
 use Rattle.wf_model.specs.InputOf.{bytes_read, slab_read}
 use Rattle.wf_model.specs.Sizes.{product}

@@ -1,11 +1,5 @@
-use Rattle.std.proofs.Common.{◌≡◌, ◌∙◌, sym, ap, ap₂, ◌+◌, ◌-◌, ◌*◌, List, arith}
-use Rattle.std.specs.Prelude.{ℤ}
-use Rattle.wf_model.specs.declared.plan.Domain.{Domain}
-use Rattle.wf_model.specs.declared.plan.Field.{Field}
-use Rattle.wf_model.specs.Plans.{domain_of, field_of}
-use Rattle.wf_model.specs.Sizes.{product}
-use Rattle.wf_model.specs.Streams.{one_if}
-use Rattle.wf_stream.specs.Levels.{shape_in}
+use Rattle.std.proofs.Common.{◌∙◌}
+use Rattle.wf_model.specs.Plans.{field_of}
 use Rattle.wf_stream.proofs.LevelLemmas.{level_given, size_given}
 use Rattle.wf_stream.proofs.levels.read_level.Goals as goal
 

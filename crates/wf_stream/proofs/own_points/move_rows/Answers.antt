@@ -1,4 +1,4 @@
-use Rattle.std.proofs.Common.{◌+◌, ◌*◌, arith}
+use Rattle.std.proofs.Common.{arith}
 use Rattle.std.proofs.Math.Nat.{zero-mul}
 use Rattle.wf_stream.proofs.RowLemmas.{move_more, move_start, next_place}
 use Rattle.wf_stream.proofs.own_points.move_rows.Goals as goal

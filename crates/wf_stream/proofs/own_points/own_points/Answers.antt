@@ -1,4 +1,4 @@
-use Rattle.std.proofs.Common.{◌≡◌, ◌+◌, ◌*◌, ◌≤◌, sym, arith, length}
+use Rattle.std.proofs.Common.{◌*◌, sym, arith}
 use Rattle.std.proofs.Math.Nat.{zero-mul}
 use Rattle.wf_stream.proofs.RowLemmas.{after_within, all_moved, next_place_at, next_within, place_before, place_within, plane_more, planes-none}
 use Rattle.wf_stream.proofs.own_points.own_points.Goals as goal

@@ -1,4 +1,4 @@
-use Rattle.std.proofs.Common.{◌≡◌, ◌∙◌, sym, ap, ℕ, cond, length, List, arith}
+use Rattle.std.proofs.Common.{◌≡◌, ◌∙◌, ap, ℕ, cond, length, List, arith}
 use Rattle.wf_model.specs.declared.plan.Field.{Field}
 use Rattle.wf_model.specs.InputOf.{is_input, level_asked, slab_read}
 use Rattle.wf_stream.specs.declared.slabs.SlabFaults.{SlabFaults}
