@@ -105,6 +105,9 @@ fn plan_of_store<S: Store>(
 /// The case of a store: its config, as [`read_config`] reads it, and then the plan of it and of `stencil.table`, which
 /// calls no stored functions.
 ///
+/// Also where the store does not tell its files, the plan is sound, with one domain that starts within the years 1 to 9999,
+/// is no restart and writes no restart files. So the begin data of its run can be read.
+///
 /// # Errors
 /// Those of `read_config`; then the table's first refusal, status 4 with the line `table LINE KIND`; and then the first
 /// test of the plan that fails, status 4 with the line `plan KIND WORDS`.
