@@ -17,3 +17,4 @@ pub mod Reaching
 pub mod Shaped
 pub mod FilesKept
 pub mod FrameRuns
+pub mod Rows

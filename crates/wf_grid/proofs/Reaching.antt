@@ -156,6 +156,11 @@ module _ (r : RunData) (steppable : IsSteppable r) (p : ℕ) (lists : List (List
       taken_by point new over (λ none. same_lists ∙ ap (λ (l : Left). l.lists) left
       ∙ ap (λ (o : Option Point). lists_by r are wide steppable.table o (lists_of r.plan 1 (grids_after r (grids_at r p) (entry_at r p))) (lists_of r.plan 1 (grids_at r p))) (over ∙ none))
 
+-- the lists of a place that is reached
+pub lists_reached : (r : RunData) → IsSteppable r → (p : ℕ) (lists : List (List ℤ)) → IsReached r p lists → (plan : Plan) → plan ≡ r.plan → AreLists plan 1 lists
+lists_reached r steppable p lists reached plan plan_is =
+    subst (λ (x : Plan). AreLists x 1 lists) (sym plan_is) (subst (AreLists r.plan 1) (sym reached.same) (lists_of_are r.plan 1 (first_lists r.initial) (grids_at r p) steppable.lists))
+
 -- the same, of the plan and the entry that the code has at hand
 module _ (r : RunData) (steppable : IsSteppable r) (p : ℕ) (lists : List (List ℤ)) (reached : IsReached r p lists) (more : p < length (script r)) (plan : Plan) (plan_is : plan ≡ r.plan) (e : Entry) (is : e ≡ entry_at r p) where
   first_is_one : e.domain ≡ 1

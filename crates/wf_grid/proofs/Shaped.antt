@@ -1,5 +1,5 @@
 -- Levels in file shape, and the slabs of a frame that a run has reached.
-use Rattle.std.proofs.Common.{◌≡◌, ℕ, ◌+◌, ◌-◌, ◌<◌, ◌≤◌, Bool, true, false, List, length, refl, sym, ap, ◌∙◌, arith, Option, Some}
+use Rattle.std.proofs.Common.{◌≡◌, ℕ, ◌+◌, ◌-◌, ◌<◌, ◌≤◌, Bool, true, false, List, length, get_or, subst, refl, sym, ap, ◌∙◌, arith, Option, Some}
 use Rattle.std.specs.Prelude.{ℤ, pos, ◌||◌, if◌then◌else◌}
 use Rattle.std.specs.List.{slice_get}
 use Rattle.std.proofs.lemmas.Int.{ints}
@@ -14,13 +14,15 @@ use Rattle.wf_model.specs.Outcome.{RunData, grids_at, outcome_of}
 use Rattle.wf_model.specs.Patches.{in_span}
 use Rattle.wf_model.specs.Plans.{domain_of, field_of, extra, nx, ny, nz, point_x, point_y}
 use Rattle.wf_model.specs.Sound.{IsLevel}
-use Rattle.wf_model.specs.Streams.{one_if, file_x, file_y, file_list}
+use Rattle.wf_model.specs.Streams.{one_if, file_x, file_y, file_list, stream_levels}
+use Rattle.std.proofs.lemmas.List.Elements.{All-get_or}
+use Rattle.wf_cdf.proofs.LevelLoops.{levels_within}
 use Rattle.wf_laws.proofs.Places.{whole, point-range}
 use Rattle.wf_stream.proofs.FrameLaws.{frame_entry}
 use Rattle.wf_grid.specs.Levels.{IsPlaceIn, grids_of, lists_of}
 use Rattle.wf_grid.specs.Reached.{IsSteppable, IsReached}
 use Rattle.wf_grid.proofs.Agreeing.{Agree, grids_back, level_same}
-use Rattle.wf_grid.proofs.OwnEntries.{entry_own}
+use Rattle.wf_grid.proofs.OwnEntries.{IsOwnAct, entry_own}
 
 -- a point of a direction in files stands for a point of the domain
 pub in_direction : (p s : Bool) (e c : ℕ) → 1 ≤ c → c ≤ e + one_if s → (p || in_span (whole (e + extra s p)) (pos c)) ≡ true
@@ -66,4 +68,14 @@ slab_is r layout frame f lists s is reached level =
 pub stream_few : (r : RunData) (frame : Frame) → IsSteppable r → slice_get (frames_of r) frame.number ≡ Some frame → frame.stream ≤ 10
 stream_few r frame s is =
     let entry = frame_entry r frame.number frame is in
-    Rattle.std.proofs.Common.subst (Rattle.wf_grid.proofs.OwnEntries.IsOwnAct r.plan) entry.act (entry_own r frame.place s.one_domain entry.within).act
+    subst (IsOwnAct r.plan) entry.act (entry_own r frame.place s.one_domain entry.within).act
+
+-- the levels that a frame's stream holds, as the code has them
+module _ (r : RunData) (plan : Plan) (plan_is : plan ≡ r.plan) (stream : ℕ) (items fields : List ℕ) (are : items ≡ fields) (held : fields ≡ stream_levels plan stream) where
+  pub fields_are : items ≡ stream_levels r.plan stream
+  fields_are = are ∙ held ∙ ap (λ (x : Plan). stream_levels x stream) plan_is
+
+  pub field_level : (i : ℕ) → i < length items → IsLevel r.plan (get_or items i 0)
+  field_level i h =
+      subst (λ (xs : List ℕ). IsLevel r.plan (get_or xs i 0)) (sym fields_are)
+      (All-get_or (IsLevel r.plan) (stream_levels r.plan stream) i 0 (subst (λ (xs : List ℕ). i < length xs) fields_are h) (levels_within r.plan stream))
