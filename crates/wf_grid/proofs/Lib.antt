@@ -18,3 +18,4 @@ pub mod Shaped
 pub mod FilesKept
 pub mod FrameRuns
 pub mod Rows
+pub mod Turns
