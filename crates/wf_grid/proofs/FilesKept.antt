@@ -1,13 +1,13 @@
 -- The files of frames stay there, with room for their number of records.
-use Rattle.std.proofs.Common.{◌≡◌, ◌⊎◌, inl, inr, ℕ, ◌+◌, ◌<◌, ◌≤◌, Bool, true, false, List, [], ◌∷◌, ◌++◌, length, take, drop, map, Option, Some, None, IsSome, unwrap_or, refl, sym, ap, subst, ◌∙◌, arith, length-append, length-take, length-drop, codes}
-use Rattle.std.specs.Prelude.{if◌then◌else◌, IsFalse}
+use Rattle.std.proofs.Common.{◌≡◌, ◌⊎◌, inl, inr, ℕ, ◌+◌, ◌≤◌, Bool, true, false, List, [], ◌∷◌, ◌++◌, length, take, drop, map, Option, Some, IsSome, unwrap_or, refl, sym, ap, subst, ◌∙◌, arith, length-append, length-take, length-drop}
+use Rattle.std.specs.Prelude.{if◌then◌else◌}
 use Rattle.std.specs.Str.{bytes_eq}
 use Rattle.std.specs.List.{slice_get}
 use Rattle.std.proofs.lemmas.Slice.Eq.{bytes_eq-Decides}
 use Rattle.std.proofs.lemmas.Bool.{cases_lt}
 use Rattle.wf_model.specs.declared.frame.Frame.{Frame}
 use Rattle.wf_model.specs.declared.header.Header.{Header}
-use Rattle.wf_model.specs.Bytes.{four_bytes, header_bytes, list_bytes, dim_bytes, att_bytes, var_bytes}
+use Rattle.wf_model.specs.Bytes.{four_bytes, header_bytes}
 use Rattle.wf_model.specs.Files.{Files, StoreCall, create, append, write_at, with_file, bytes_at, patched, files_after_all}
 use Rattle.wf_model.specs.Frames.{frames_of}
 use Rattle.wf_model.specs.Headers.{file_header, placed}

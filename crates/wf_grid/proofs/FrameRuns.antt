@@ -1,12 +1,12 @@
 -- The store calls of the frames of a run, one frame after another, and how they end.
-use Rattle.std.proofs.Common.{◌≡◌, inl, inr, ℕ, zero, suc, ◌+◌, ◌<◌, ◌≤◌, nat_lt, cond, Bool, true, false, List, [], ◌∷◌, ◌++◌, length, take, drop, get_or, Option, Some, None, Result, Ok, Err, refl, sym, ap, subst, ◌∙◌, append_assoc, append-nil, arith}
+use Rattle.std.proofs.Common.{◌≡◌, inl, inr, ℕ, zero, suc, ◌+◌, ◌<◌, ◌≤◌, nat_lt, cond, Bool, true, List, [], ◌∷◌, ◌++◌, length, take, drop, Option, Some, None, Ok, Err, refl, sym, ap, subst, ◌∙◌, append-nil, arith}
 use Rattle.std.specs.Prelude.{filter, flat_map, sum, sum_by, ℤ}
 use Rattle.std.specs.List.{slice_get}
 use Rattle.std.proofs.Math.Seq.{take-suc}
 use Rattle.std.proofs.lemmas.Bool.{cases_lt, lt-ltb}
 use Rattle.std.proofs.lemmas.List.{take-append-drop, take_all}
 use Rattle.std.proofs.lemmas.Grind.{flat_map-append}
-use Rattle.std.proofs.lemmas.Option.{slice_get_within, slice_get-get_or, get_or_from_slice_get}
+use Rattle.std.proofs.lemmas.Option.{slice_get_within, get_or_from_slice_get}
 use Rattle.wf_io.specs.Files.{Rose}
 use Rattle.wf_model.specs.declared.finished.CoreError.{CoreError}
 use Rattle.wf_model.specs.declared.finished.CoreError.TheVariants as core
@@ -17,21 +17,20 @@ use Rattle.wf_model.specs.Agreement.{IsUpToOverflow}
 use Rattle.wf_model.specs.Failed.{Failed}
 use Rattle.wf_model.specs.Files.{Files, StoreCall}
 use Rattle.wf_model.specs.Frames.{frames_of, frames_written, up_to_overflow, no_frame}
-use Rattle.wf_model.specs.Grids.{Grids}
 use Rattle.wf_model.specs.Letters.{Text}
-use Rattle.wf_model.specs.Outcome.{RunData, Overflow, script, outcome_of, entry_at, grids_at}
+use Rattle.wf_model.specs.Outcome.{RunData, script, outcome_of, entry_at, grids_at}
 use Rattle.wf_model.specs.StoreRuns.{Ran, Stopped}
-use Rattle.wf_model.specs.Writes.{Summary, frame_calls, writes_of, record_of, summary_of}
+use Rattle.wf_model.specs.Writes.{frame_calls, writes_of, record_of, summary_of}
 use Rattle.wf_model.proofs.StoreRunLaws.{ran_none, ran_then, stopped_whole, stopped_left, stopped_right, failed_left, failed_right}
 use Rattle.wf_laws.proofs.FirstOverflow.{first_is, takes_on}
 use Rattle.wf_stream.specs.declared.writer.Totals.{Totals}
 use Rattle.wf_stream.specs.Writing.{totals_of}
-use Rattle.wf_stream.proofs.FrameLaws.{frame_entry, frame_number, frames_before}
-use Rattle.wf_grid.specs.FrameEnds.{calls_of, FrameFails, FrameEnds}
+use Rattle.wf_stream.proofs.FrameLaws.{frame_entry, frames_before}
+use Rattle.wf_grid.specs.FrameEnds.{calls_of, FrameEnds}
 use Rattle.wf_grid.specs.Held.{point_at_end}
 use Rattle.wf_grid.specs.Levels.{lists_of}
 use Rattle.wf_grid.specs.Reached.{IsReached, OverflowsIn, StandBefore, place_of}
-use Rattle.wf_grid.specs.RunEnds.{EndsBy, EndsByOverflow, EndsByFault, finished_of}
+use Rattle.wf_grid.specs.RunEnds.{EndsBy, EndsByOverflow, finished_of}
 use Rattle.wf_grid.proofs.Reaching.{place_from, up_more, emit_over, emit_after}
 
 -- ---- lists

@@ -1,5 +1,5 @@
 -- A run of one domain, one item of its script further.
-use Rattle.std.proofs.Common.{◌≡◌, ◌⊎◌, inl, inr, ℕ, ◌+◌, ◌<◌, ◌≤◌, Bool, false, nat_lt, List, length, get_or, refl, sym, ap, subst, ◌∙◌, arith, Option, Some, None, Result, Ok, Err}
+use Rattle.std.proofs.Common.{◌≡◌, ◌⊎◌, inl, inr, ℕ, ◌+◌, ◌<◌, ◌≤◌, false, nat_lt, List, length, get_or, refl, sym, ap, subst, ◌∙◌, arith, Option, Some, None, Result, Ok, Err}
 use Rattle.std.specs.Prelude.{ℤ, option_map, IfSome}
 use Rattle.std.proofs.lemmas.Bool.{cases_lt}
 use Rattle.std.proofs.lemmas.List.{get_or_default}
@@ -11,7 +11,7 @@ use Rattle.wf_model.specs.Value.{Answers}
 use Rattle.wf_grid.specs.Takeable.{IsTable, HasRoom}
 use Rattle.wf_model.specs.declared.script.Entry.{Entry}
 use Rattle.wf_model.specs.Agreement.{IsUpToOverflow}
-use Rattle.wf_model.specs.Changes.{Change, nothing, changed, overflow_in}
+use Rattle.wf_model.specs.Changes.{nothing, changed, overflow_in}
 use Rattle.wf_model.specs.Grids.{Grids}
 use Rattle.wf_model.specs.Held.{stands_past}
 use Rattle.wf_model.specs.Outcome.{RunData, Overflow, script, entry_at, grids_at, grids_after, act_change, change_of, overflow_of, point_of, outcome_of, begin_grids, no_entry}

@@ -1,5 +1,5 @@
 -- Levels in file shape, and the slabs of a frame that a run has reached.
-use Rattle.std.proofs.Common.{◌≡◌, ℕ, ◌+◌, ◌-◌, ◌<◌, ◌≤◌, Bool, true, false, List, length, get_or, subst, refl, sym, ap, ◌∙◌, arith, Option, Some}
+use Rattle.std.proofs.Common.{◌≡◌, ℕ, ◌+◌, ◌-◌, ◌<◌, ◌≤◌, Bool, true, false, List, length, get_or, subst, refl, sym, ap, ◌∙◌, arith, Some}
 use Rattle.std.specs.Prelude.{ℤ, pos, ◌||◌, if◌then◌else◌}
 use Rattle.std.specs.List.{slice_get}
 use Rattle.std.proofs.lemmas.Int.{ints}
@@ -8,7 +8,7 @@ use Rattle.wf_model.specs.declared.frame.Frame.{Frame}
 use Rattle.wf_model.specs.declared.layout.Layout.{Layout}
 use Rattle.wf_model.specs.declared.plan.Plan.{Plan}
 use Rattle.wf_model.specs.Frames.{frames_of, frame_of, no_frame}
-use Rattle.wf_model.specs.Grids.{Grids, listed}
+use Rattle.wf_model.specs.Grids.{Grids}
 use Rattle.wf_model.specs.Held.{numbers_at, slab_numbers, stands_past, grids_in_patches}
 use Rattle.wf_model.specs.Outcome.{RunData, grids_at, outcome_of}
 use Rattle.wf_model.specs.Patches.{in_span}

@@ -36,12 +36,7 @@ fn file_points(end: u32, staggered: bool) -> u32
 }
 
 /// Adds a row of a level in file shape: in a periodic direction the extra point of a staggered field is its first.
-fn push_row(
-    at: &Numbers,
-    k: u32,
-    j: u32,
-    values: &mut Vec<i32>,
-) -> Result<(), AllocError>
+fn push_row(at: &Numbers, k: u32, j: u32, values: &mut Vec<i32>) -> Result<(), AllocError>
     requires in_z { (1 ≤ k) × (k ≤ nz at.now.plan.now at.now.field) }
     requires in_y { (1 ≤ j) × (j ≤ ny at.now.plan.now at.now.number at.now.field) }
     ensures { OnOk result (values.new.items ≡ values.old.items ++ file_row at.now.plan.now at.now.number at.now.field at.now.levels.now k j) }
@@ -66,7 +61,12 @@ fn push_plane(at: &Numbers, k: u32, values: &mut Vec<i32>) -> Result<(), AllocEr
     let level = level(at.plan, at.field);
     let rows = extents_of(domain, level).rows;
     for y in 0..file_points(domain.jde, level.stag_y) {
-        push_row(at, k, wrapped_place(domain.periodic_y, rows, y + 1, 0), values)?;
+        push_row(
+            at,
+            k,
+            wrapped_place(domain.periodic_y, rows, y + 1, 0),
+            values,
+        )?;
     }
     Ok(())
 }

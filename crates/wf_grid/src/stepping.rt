@@ -22,9 +22,7 @@ use crate::whole::Whole;
 use std::alloc::Global;
 use std::marker::Brand;
 use wf_io::Store;
-use wf_model::{
-    Act, CoreError, Finished, Frame, Initial, Layout, List, Plan, Point, Run, RunName,
-};
+use wf_model::{Act, CoreError, Finished, Frame, Initial, Layout, List, Plan, Point, Run, RunName};
 use wf_stream::{Frames, StreamError, Totals, Writer};
 
 /// Does the item at a place of the script, from 0, or gives the point that overflows there. A frame changes nothing.

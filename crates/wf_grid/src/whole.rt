@@ -86,10 +86,10 @@ fn steps_before(initial: &Initial) -> u64
 /// A run on whole domains: its plan, how its domains begin, and the numbers that they hold.
 #[derive(Drop)]
 pub struct Whole {
-    pub alloc: Global,
-    pub plan: Plan,
-    pub initial: Initial,
-    pub scratch: Vec<i32>,
+    pub(crate) alloc: Global,
+    pub(crate) plan: Plan,
+    pub(crate) initial: Initial,
+    pub(crate) scratch: Vec<i32>,
 }
 
 impl Model for Whole {

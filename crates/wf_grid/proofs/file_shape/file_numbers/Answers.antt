@@ -2,7 +2,6 @@ use Rattle.std.proofs.Common.{◌≡◌, ℕ, ◌+◌, [], refl, flat_map, ap, �
 use Rattle.std.specs.List.{range_with_len}
 use Rattle.wf_model.specs.declared.plan.Field.{Field}
 use Rattle.wf_model.specs.Grids.{listed}
-use Rattle.wf_model.specs.Plans.{nz}
 use Rattle.wf_model.specs.Streams.{file_list}
 use Rattle.wf_grid.specs.FileShape.{file_row, file_plane}
 use Rattle.wf_grid.proofs.Rows.{grow_flat}

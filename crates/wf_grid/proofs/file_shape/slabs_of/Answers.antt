@@ -1,7 +1,6 @@
-use Rattle.std.proofs.Common.{◌≡◌, ℕ, ◌≤◌, List, length, map, take, get_or, ap, ◌∙◌, arith}
+use Rattle.std.proofs.Common.{ℕ, ◌≤◌, length, map, get_or, ap, ◌∙◌, arith}
 use Rattle.std.proofs.lemmas.List.{take_all}
 use Rattle.wf_model.specs.Sound.{IsLevel}
-use Rattle.wf_stream.specs.Writing.{label}
 use Rattle.wf_grid.proofs.Shaped.{stream_few, fields_are, field_level}
 use Rattle.wf_grid.proofs.file_shape.slabs_of.Goals as goal
 

@@ -1,12 +1,11 @@
-use Rattle.std.proofs.Common.{◌≡◌, ℕ, ◌+◌, ◌-◌, ◌<◌, ◌≤◌, List, length, None, refl, sym, ap, ◌∙◌, arith}
-use Rattle.std.specs.Prelude.{ℤ}
+use Rattle.std.proofs.Common.{◌≡◌, ℕ, ◌+◌, ◌-◌, ◌<◌, length, None, sym, ap, ◌∙◌, arith}
 use Rattle.wf_model.specs.Frames.{frames_of}
 use Rattle.wf_model.specs.Writes.{writes_of}
 use Rattle.wf_model.proofs.StoreRunLaws.{stopped_none}
 use Rattle.wf_stream.specs.Writing.{Written, totals_of}
 use Rattle.wf_grid.specs.Reached.{IsReached}
 use Rattle.wf_grid.proofs.FrameRuns.{IsEnded, ended_ran, ended_told}
-use Rattle.wf_grid.proofs.Turns.{Going, going_none, memory_ends, order, within, overflow_ends, ended, by_number, its_number, its_file, error_ends, going_on, fewer}
+use Rattle.wf_grid.proofs.Turns.{going_none, memory_ends, order, within, overflow_ends, ended, by_number, its_number, its_file, error_ends, going_on, fewer}
 use Rattle.wf_grid.proofs.stepping.write_frames.Goals as goal
 
 pub returns-in-Err-clause-error : goal.returns-in-Err-clause-error

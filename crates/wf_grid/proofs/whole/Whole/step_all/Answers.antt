@@ -1,4 +1,4 @@
-use Rattle.std.proofs.Common.{◌≡◌, None, IfOk, IfErr, OnOk, sym, ap, subst}
+use Rattle.std.proofs.Common.{◌≡◌, None, IfOk, IfErr, OnOk, sym, subst}
 use Rattle.wf_model.specs.Outcome.{outcome_of}
 use Rattle.wf_model.specs.Sound.{FilesFit}
 use Rattle.wf_model.specs.StoreRuns.{Ran}
