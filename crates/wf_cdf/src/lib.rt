@@ -15,7 +15,7 @@ pub use header::write_header;
 pub use place::place_vars;
 pub use slab::{write_chars, write_slab};
 pub use sound::{begins_fit, is_sound};
-pub use stream_header::file_header;
+pub use stream_header::{file_header, stream_levels};
 pub use too_long::TooLong;
 
 #[cfg(test)]

@@ -214,9 +214,10 @@ fn with_level(mut levels: Vec<usize>, level: usize, is_held: bool) -> Result<Vec
     Ok(levels)
 }
 
-/// The levels that a stream holds, by number, in order.
+/// The levels that a stream holds, by number from 0, in order. Streams are 0 for history, 1 to 9 for auxiliary history and
+/// 10 for restart files, which hold all levels with `r`; the others hold the last level of each field with their `h`.
 #[tactic(auto, using(crate::proofs::LevelLoops::levels_more), unfolding(wf_model::specs::Streams::stream_levels))]
-fn stream_levels(alloc: Global, plan: &Plan, stream: u32) -> Result<Vec<usize>, AllocError>
+pub fn stream_levels(alloc: Global, plan: &Plan, stream: u32) -> Result<Vec<usize>, AllocError>
     requires { stream ≤ 10 }
     ensures levels { IfOk result (λ v. v.items ≡ stream_levels plan.now stream) }
 {

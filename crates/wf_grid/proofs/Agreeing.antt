@@ -28,7 +28,7 @@ pub record Agree (plan : Plan) (d : ℕ) (g h : Grids) : Type 0 where
   pub same : (f k j i : ℕ) → IsLevel plan f → IsPlaceIn (nz plan f) (ny plan d f) (nx plan d f) k j i → g d f k j i ≡ h d f k j i
 
 -- one level's list
-level_same : (zs ys xs : ℕ) (g h : ℕ → ℕ → ℕ → ℤ) → ((k j i : ℕ) → IsPlaceIn zs ys xs k j i → g k j i ≡ h k j i) → listed zs ys xs g ≡ listed zs ys xs h
+pub level_same : (zs ys xs : ℕ) (g h : ℕ → ℕ → ℕ → ℤ) → ((k j i : ℕ) → IsPlaceIn zs ys xs k j i → g k j i ≡ h k j i) → listed zs ys xs g ≡ listed zs ys xs h
 unfolding listed cells
 level_same zs ys xs g h same =
     same_list (cells g zs ys xs) (cells h zs ys xs) (pos 0) (length-cells g zs ys xs ∙ sym (length-cells h zs ys xs))

@@ -12,3 +12,10 @@ pub mod Running
 pub mod WholeScript
 pub mod Ready
 pub mod SettledRun
+pub mod OwnEntries
+pub mod Reaching
+pub mod Shaped
+pub mod FilesKept
+pub mod FrameRuns
+pub mod Rows
+pub mod Turns

@@ -1,5 +1,5 @@
 -- A plan of one domain and what fits it are ready to be settled.
-use Rattle.std.proofs.Common.{◌≡◌, ℕ, zero, suc, Bool, true, false, ◌∷◌, set, take, drop, ◌++◌, ◌+◌, ◌-◌, ◌*◌, ◌^◌, ◌<◌, ◌≤◌, List, [], length, get_or, refl, ap, subst, ◌∙◌, arith}
+use Rattle.std.proofs.Common.{◌≡◌, ℕ, zero, suc, Bool, true, false, ◌∷◌, set, take, drop, ◌++◌, ◌+◌, ◌-◌, ◌*◌, ◌^◌, ◌<◌, ◌≤◌, List, [], length, get_or, refl, sym, ap, subst, ◌∙◌, arith}
 use Rattle.std.specs.List.{All, range_with_len}
 use Rattle.std.proofs.Math.Nat.{zero-mul, suc-mul, mul-le-mul_left}
 use Rattle.std.proofs.lemmas.List.{take-append-le, take_all}
@@ -114,6 +114,8 @@ module _ (plan : Plan) (initial : Initial) (sound : IsSoundPlan plan) (ranged : 
   pub ready : (scratch : List ℤ) → ((f : ℕ) → f < length (first_lists initial) → length (get_or (first_lists initial) f no_list) ≤ length scratch) → IsReady plan initial scratch
   ready scratch long = record {
     sound = sound;
+    ranged = ranged;
+    fitting = fitting;
     first = ranged.first;
     one_domain = one;
     domains = fitting.shape.domains ∙ one;
@@ -125,11 +127,32 @@ module _ (plan : Plan) (initial : Initial) (sound : IsSoundPlan plan) (ranged : 
     steps = few_steps;
   }
 
+-- other lists of the same lengths fit the plan too
+fitting_after : (plan : Plan) (initial : Initial) (grids : List (List (List ℤ))) → length plan.domains ≡ 1 → IsFittingInitial plan initial → length grids ≡ 1 → AreLists plan 1 (get_or grids 0 no_lists) → IsFittingInitial plan (record { grids = grids; begins = initial.begins })
+fitting_after plan initial grids one old l are = record {
+  shape = record {
+    domains = l ∙ sym one;
+    levels = λ d h. let here : 0 ≡ d - 1 = omega (arith, h.0, h.1, one) in subst (λ (n : ℕ). length (get_or grids n no_lists) ≡ length plan.fields) here are.levels;
+  };
+  begins = old.begins;
+  sound = old.sound;
+  first = old.first;
+  fresh = old.fresh;
+  started = old.started;
+  lists = λ d f h level.
+      let here : 0 ≡ d - 1 = omega (arith, h.0, h.1, one) in
+      let this : 1 ≡ d = omega (arith, h.0, h.1, one) in
+      subst (λ (n : ℕ). length (get_or (get_or grids n no_lists) f no_list) ≡ nz plan f * (ny plan d f * nx plan d f)) here
+      (subst (λ (k : ℕ). length (get_or (get_or grids 0 no_lists) f no_list) ≡ nz plan f * (ny plan k f * nx plan k f)) this (are.each f level));
+}
+
 -- after the run it is ready again
 pub ready_after : (plan : Plan) (initial : Initial) (scratch : List ℤ) (grids : List (List (List ℤ))) (used : List ℤ) → IsReady plan initial scratch → length grids ≡ 1 → AreLists plan 1 (get_or grids 0 no_lists) → length used ≡ length scratch →
     IsReady plan (record { grids = grids; begins = initial.begins }) used
 ready_after plan initial scratch grids used r l are same = record {
   sound = r.sound;
+  ranged = r.ranged;
+  fitting = fitting_after plan initial grids r.one_domain r.fitting l are;
   first = r.first;
   one_domain = r.one_domain;
   domains = l;

@@ -126,12 +126,12 @@ module _ (r : RunData) where
     seen x = record { point = x.point; lists = lists_of r.plan 1 x.grids }
 
     -- the lists by whether a point overflowed
-    abbrev lists_by : Option Point → List (List ℤ) → List (List ℤ) → List (List ℤ)
+    abbrev pub lists_by : Option Point → List (List ℤ) → List (List ℤ) → List (List ℤ)
     lists_by None a b = a
     lists_by (Some p) a b = b
 
     -- one item
-    item-seen : (step t n : ℕ) (g : Grids) → n < length r.plan.items → left_by_item r.plan r.answers 1 step n (lists_of r.plan 1 g)
+    pub item-seen : (step t n : ℕ) (g : Grids) → n < length r.plan.items → left_by_item r.plan r.answers 1 step n (lists_of r.plan 1 g)
         ≡ record { point = overflow_of r (entry 1 step t (Table n)) g; lists = lists_by (overflow_of r (entry 1 step t (Table n)) g) (lists_of r.plan 1 (grids_after r g (entry 1 step t (Table n)))) (lists_of r.plan 1 g) }
     unfolding left_by_item overflow_of grids_after change_of
     item-seen step t n g h =

@@ -19,7 +19,7 @@ use Rattle.wf_grid.specs.Held.{point_at_end, grids_at_end}
 use Rattle.wf_grid.proofs.Running.{Ran, run_on, run_from, seen, run_told, run-append, run-before, run-after, frames-idle, items-seen}
 
 -- a plan of one domain has no nests
-childless : (plan : Plan) → length plan.domains ≡ 1 → children plan 1 ≡ []
+pub childless : (plan : Plan) → length plan.domains ≡ 1 → children plan 1 ≡ []
 unfolding children
 childless plan one = ap (λ (n : ℕ). filter (λ c. (domain_of plan c).parent == 1) (filter (nat_lt 1) (up_to n))) one
 

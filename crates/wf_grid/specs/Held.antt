@@ -1,11 +1,11 @@
 -- What a run on whole domains holds, and what is left of it.
-use Rattle.std.specs.Prelude.{◌≡◌, ℕ, [], ◌+◌, ◌-◌, ◌^◌, ◌<◌, ◌≤◌, List, length, map, ℤ, Option, Some, None, Result, Ok, Err, slice_index_or}
+use Rattle.std.specs.Prelude.{◌≡◌, [], ◌+◌, ◌^◌, ◌<◌, ◌≤◌, List, length, map, ℤ, Option, Some, None, Result, Ok, Err, slice_index_or}
 use Rattle.wf_model.specs.declared.plan.Plan.{Plan}
 use Rattle.wf_model.specs.declared.initial.Initial.{Initial}
 use Rattle.wf_model.specs.declared.plan.Item.{Item}
 use Rattle.wf_model.specs.declared.plan.Item.TheVariants as item
 use Rattle.wf_model.specs.ExprFacts.{parts_of}
-use Rattle.wf_model.specs.Sound.{IsDomain, IsSoundPlan, IsSoundFirst}
+use Rattle.wf_model.specs.Sound.{IsSoundPlan, IsRangedPlan, IsFittingInitial, IsSoundFirst}
 use Rattle.wf_model.specs.declared.point.Point.{Point}
 use Rattle.wf_model.specs.Plans.{domain_of, domains_of, begin_of}
 use Rattle.wf_model.specs.Value.{Answers}
@@ -48,6 +48,8 @@ first_lists initial = slice_index_or initial.grids 0 no_lists
 -- what a run of one domain needs to be settled
 pub record IsReady (plan : Plan) (initial : Initial) (scratch : List ℤ) : Type 0 where
   pub sound : IsSoundPlan plan
+  pub ranged : IsRangedPlan plan
+  pub fitting : IsFittingInitial plan initial
   pub first : IsSoundFirst (domain_of plan 1)
   pub one_domain : length plan.domains ≡ 1
   pub domains : length initial.grids ≡ 1

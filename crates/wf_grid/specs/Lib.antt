@@ -5,4 +5,7 @@ pub mod Filled
 pub mod Stepped
 pub mod Takeable
 pub mod Held
+pub mod Reached
+pub mod FileShape
+pub mod FrameEnds
 pub mod RunEnds

@@ -39,7 +39,7 @@ fn named(domain: u32, step: u64, item: u32, field: u32, here: Option<Here>) -> O
 
 /// Does an item of the table on a whole domain, or gives the first point that overflows and changes nothing. An
 /// exchange between patches changes no whole domain.
-fn take_item(
+pub fn take_item(
     plan: &Plan,
     number: u32,
     levels: &mut [List<i32>],

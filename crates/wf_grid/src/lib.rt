@@ -4,6 +4,7 @@
 #![tactic(auto)]
 
 mod extents;
+mod file_shape;
 mod item;
 mod phase;
 mod stepping;

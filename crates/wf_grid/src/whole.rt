@@ -86,9 +86,10 @@ fn steps_before(initial: &Initial) -> u64
 /// A run on whole domains: its plan, how its domains begin, and the numbers that they hold.
 #[derive(Drop)]
 pub struct Whole {
-    plan: Plan,
-    initial: Initial,
-    scratch: Vec<i32>,
+    pub(crate) alloc: Global,
+    pub(crate) plan: Plan,
+    pub(crate) initial: Initial,
+    pub(crate) scratch: Vec<i32>,
 }
 
 impl Model for Whole {
@@ -120,6 +121,7 @@ impl Whole {
         let count = longest(initial.grids.as_slice()[0].as_slice());
         let scratch = vec![in alloc; 0; count]?;
         Ok(Whole {
+            alloc,
             plan,
             initial,
             scratch,

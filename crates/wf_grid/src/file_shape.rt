@@ -1,0 +1,127 @@
+//! Levels in file shape, and the slabs of a frame.
+
+ghost use Rattle.std.specs.Prelude.{◌≡◌, ◌+◌, ◌-◌, ◌≤◌, ◌++◌, IfOk, OnOk, Some, map, length};
+ghost use Rattle.std.specs.List.{slice_get};
+ghost use Rattle.wf_model.specs.Frames.{frames_of};
+ghost use Rattle.wf_model.specs.Plans.{nx, ny, nz};
+ghost use Rattle.wf_model.specs.Sound.{IsLevel};
+ghost use Rattle.wf_model.specs.Streams.{one_if, file_list};
+ghost use Rattle.wf_grid.specs.FileShape.{file_row, file_plane};
+ghost use Rattle.wf_grid.specs.Levels.{AreLists, grids_of};
+ghost use Rattle.wf_grid.specs.Reached.{IsSteppable, IsReached};
+ghost use Rattle.wf_stream.specs.Writing.{label, labels};
+
+use crate::extents::{Here, domain, extents_of, level, wrapped_place};
+use crate::surroundings::number_at;
+use std::alloc::{AllocError, Global};
+use wf_cdf::stream_levels;
+use wf_model::{Frame, List, Plan, Run, RunName, Slab};
+
+/// A level of a domain, and the numbers of all levels of the domain.
+#[derive(Clone, Copy, Drop)]
+struct Numbers<'a> {
+    plan: &'a Plan,
+    number: u32,
+    field: u32,
+    levels: &'a [List<i32>],
+    ghost lists: { AreLists plan.now number levels.now },
+    ghost is: { IsLevel plan.now field },
+}
+
+/// The points of a direction in files: there a staggered field has its extra point in a periodic direction too.
+fn file_points(end: u32, staggered: bool) -> u32
+    ensures { result ≡ end - 1 + one_if staggered }
+{
+    end.saturating_sub(1) + u32::from(staggered)
+}
+
+/// Adds a row of a level in file shape: in a periodic direction the extra point of a staggered field is its first.
+fn push_row(at: &Numbers, k: u32, j: u32, values: &mut Vec<i32>) -> Result<(), AllocError>
+    requires in_z { (1 ≤ k) × (k ≤ nz at.now.plan.now at.now.field) }
+    requires in_y { (1 ≤ j) × (j ≤ ny at.now.plan.now at.now.number at.now.field) }
+    ensures { OnOk result (values.new.items ≡ values.old.items ++ file_row at.now.plan.now at.now.number at.now.field at.now.levels.now k j) }
+{
+    let domain = domain(at.plan, at.number);
+    let level = level(at.plan, at.field);
+    let columns = extents_of(domain, level).columns;
+    for x in 0..file_points(domain.ide, level.stag_x) {
+        let i = wrapped_place(domain.periodic_x, columns, x + 1, 0);
+        let here = Here { k, j, i };
+        values.push(number_at(at.plan, at.number, at.levels, at.field, here))?;
+    }
+    Ok(())
+}
+
+/// Adds the rows of a level in z: in a periodic direction the extra row of a staggered field is its first.
+fn push_plane(at: &Numbers, k: u32, values: &mut Vec<i32>) -> Result<(), AllocError>
+    requires { (1 ≤ k) × (k ≤ nz at.now.plan.now at.now.field) }
+    ensures { OnOk result (values.new.items ≡ values.old.items ++ file_plane at.now.plan.now at.now.number at.now.field at.now.levels.now k) }
+{
+    let domain = domain(at.plan, at.number);
+    let level = level(at.plan, at.field);
+    let rows = extents_of(domain, level).rows;
+    for y in 0..file_points(domain.jde, level.stag_y) {
+        push_row(
+            at,
+            k,
+            wrapped_place(domain.periodic_y, rows, y + 1, 0),
+            values,
+        )?;
+    }
+    Ok(())
+}
+
+/// The numbers of a level in file shape, in order k, j, i.
+fn file_numbers(alloc: Global, at: &Numbers) -> Result<Vec<i32>, AllocError>
+    ensures { IfOk result (λ v. v.items ≡ file_list at.now.plan.now at.now.number at.now.field (grids_of at.now.plan.now at.now.number at.now.levels.now)) }
+{
+    let mut values = Vec::new(alloc);
+    for k in 0..level(at.plan, at.field).nz {
+        push_plane(at, k + 1, &mut values)?;
+    }
+    Ok(values)
+}
+
+/// The slab of a level in a frame that the run has reached.
+fn slab_of<N: RunName>(
+    alloc: Global,
+    run: &Run<'_, N>,
+    frame: &Frame,
+    levels: &[List<i32>],
+    field: u32,
+) -> Result<Slab<N>, AllocError>
+    requires steppable { IsSteppable N.run }
+    requires frame { slice_get (frames_of N.run) frame.now.number ≡ Some frame.now }
+    requires reached { IsReached N.run frame.now.place levels.now }
+    requires level { IsLevel N.run.plan field }
+    ensures { IfOk result (λ s. label s ≡ (frame.now.number, field)) }
+{
+    let at = Numbers {
+        plan: run.plan(),
+        number: 1,
+        field,
+        levels,
+    };
+    let values = file_numbers(alloc, &at)?;
+    Ok(Slab::new(frame.number, field, values))
+}
+
+/// The slabs of a frame that the run has reached: of each level of its stream, in order.
+pub fn slabs_of<N: RunName>(
+    alloc: Global,
+    run: &Run<'_, N>,
+    frame: &Frame,
+    levels: &[List<i32>],
+) -> Result<Vec<Slab<N>>, AllocError>
+    requires steppable { IsSteppable N.run }
+    requires frame { slice_get (frames_of N.run) frame.now.number ≡ Some frame.now }
+    requires reached { IsReached N.run frame.now.place levels.now }
+    ensures { IfOk result (λ v. map label v.items ≡ labels N.run frame.now) }
+{
+    let fields = stream_levels(alloc, run.plan(), frame.stream)?;
+    let mut slabs = Vec::new(alloc);
+    for field in &fields {
+        slabs.push(slab_of(alloc, run, frame, levels, *field as u32)?)?;
+    }
+    Ok(slabs)
+}
