@@ -27,7 +27,8 @@ fn steps_at<N: RunName>(frame: &Frame, run: &Run<'_, N>) -> u64
     run.script()[frame.place as usize].step
 }
 
-/// The header of a frame's file, with no record.
+/// The header of a frame's file, with no record. A plan with a dimension named `Time`, which no Registry has, gives no
+/// header that can be written: this counts as want of memory.
 fn header_bytes<N: RunName>(
     alloc: Global,
     frame: &Frame,

@@ -86,8 +86,8 @@ impl<N: RunName> Writer<N> {
     ///
     /// # Errors
     /// `Store` where a call of the store failed, which the store counted; no call followed it. Or want of memory, as which
-    /// a total counts that would pass 64 bits. A first part of the frame's calls was then made. After an error the writer
-    /// answers that error for ever, and calls nothing.
+    /// count a total that would pass 64 bits and a dimension named `Time`, which no Registry has. A first part of the
+    /// frame's calls was then made. After an error the writer answers that error for ever, and calls nothing.
     pub fn write_frame<S: Store>(
         &mut self,
         store: &mut S,
