@@ -12,3 +12,6 @@ mod writer;
 pub use frames::Frames;
 pub use input::{InputError, read_input};
 pub use writer::{StreamError, Totals, Writer};
+
+#[cfg(test)]
+mod input_tests;
