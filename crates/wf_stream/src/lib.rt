@@ -20,4 +20,6 @@ pub use writer::{StreamError, Totals, Writer};
 #[cfg(test)]
 mod file_name_tests;
 #[cfg(test)]
+mod input_tests;
+#[cfg(test)]
 mod tests;
