@@ -171,6 +171,7 @@ fn write_frames<N: RunName, S: Store>(
             Ok(()) => {}
             Err(error) => return Err(error),
         }
+        // the frame's own item changes nothing
         place = end + 1;
     }
 }
