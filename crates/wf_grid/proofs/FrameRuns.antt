@@ -188,9 +188,12 @@ pub ended_ran : (r : RunData) (n : ℕ) (a b : Option Files) → IsEnded r n →
 ended_ran r n a b e ran = ran_written r n a b e.written ran
 
 -- what is told of the whole run
-pub ended_told : (r : RunData) (n : ℕ) (t : Totals) → IsEnded r n → t ≡ totals_of r n → ◌≡◌ {A = Finished} (record { files = t.files; records = t.records; bytes = t.bytes; sum = t.sum; memories = [] }) (finished_of (summary_of r))
+ended_told : (r : RunData) (n : ℕ) (t : Totals) → IsEnded r n → t ≡ totals_of r n → ◌≡◌ {A = Finished} (record { files = t.files; records = t.records; bytes = t.bytes; sum = t.sum; memories = [] }) (finished_of (summary_of r))
 unfolding totals_of summary_of
 ended_told r n t e is =
     (λ i. record { files = (is i).files; records = (is i).records; bytes = (is i).bytes; sum = (is i).sum; memories = [] })
     ∙ (λ i. let fs : List Frame = sym e.written i in
     record { files = length (filter (λ (frame : Frame). frame.first) fs); records = length fs; bytes = sum_by (λ frame. sum_by length (record_of r frame)) fs; sum = sum_by (λ frame. sum_by sum (record_of r frame)) fs; memories = [] })
+
+pub told_as : (r : RunData) (n : ℕ) (t : Totals) (done : Finished) → IsEnded r n → t ≡ totals_of r n → done ≡ record { files = t.files; records = t.records; bytes = t.bytes; sum = t.sum; memories = [] } → done ≡ finished_of (summary_of r)
+told_as r n t done e is h = h ∙ ended_told r n t e is

@@ -8,6 +8,7 @@ use sqlite_items::Boxed;
 use std::alloc::{AllocError, Global};
 use std::test::Fail;
 use wf_demo_laws::{demo_is_accepted, demo_is_in_range};
+use wf_io::{MemStore, Store};
 use wf_model::{
     Begin, Bytes, Domain, Expr, Field, HaloPart, Initial, Item, List, Name, Phase, Plan,
 };
@@ -223,5 +224,36 @@ fn built_in_case(rt: HostRuntime) -> Result<(), Fail> {
         whole.grid(1, 0),
         [0, 37, 74, 53, 65, 27, 6, 43, 80].as_slice()
     );
+    Ok(())
+}
+
+/// One file takes the frames at the start and after the step, each with 20 bytes of its time and 36 of nine numbers.
+#[test]
+fn frames_of_the_built_in_case(rt: HostRuntime) -> Result<(), Fail> {
+    demo_is_in_range();
+    let mut store = MemStore::new(rt.alloc());
+    let whole = demo(rt.alloc())?;
+    let told = match whole.step_all(&mut store) {
+        Ok(done) => Some((done.files, done.records, done.bytes)),
+        Err(_) => None,
+    };
+    assert_eq!(rt; told, Some((1, 2, 112)));
+    Ok(())
+}
+
+/// The file ends with the numbers after the step: 65 in the centre.
+#[test]
+fn last_record_of_the_built_in_case(rt: HostRuntime) -> Result<(), Fail> {
+    demo_is_in_range();
+    let mut store = MemStore::new(rt.alloc());
+    let whole = demo(rt.alloc())?;
+    let _ = whole.step_all(&mut store);
+    let ends = match store.read(rt.alloc(), "wrfout_d01_2000-01-01_00:00:00") {
+        Ok(Some(file)) => file.ends_with(&[
+            0, 0, 0, 65, 0, 0, 0, 27, 0, 0, 0, 6, 0, 0, 0, 43, 0, 0, 0, 80,
+        ]),
+        _ => false,
+    };
+    assert!(rt; ends);
     Ok(())
 }

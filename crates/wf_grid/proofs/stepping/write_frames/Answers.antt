@@ -4,7 +4,7 @@ use Rattle.wf_model.specs.Writes.{writes_of}
 use Rattle.wf_model.proofs.StoreRunLaws.{stopped_none}
 use Rattle.wf_stream.specs.Writing.{Written, totals_of}
 use Rattle.wf_grid.specs.Reached.{IsReached}
-use Rattle.wf_grid.proofs.FrameRuns.{IsEnded, ended_ran, ended_told}
+use Rattle.wf_grid.proofs.FrameRuns.{IsEnded, ended_ran, told_as}
 use Rattle.wf_grid.proofs.Turns.{going_none, memory_ends, order, within, overflow_ends, ended, by_number, its_number, its_file, error_ends, going_on, fewer}
 use Rattle.wf_grid.proofs.stepping.write_frames.Goals as goal
 
@@ -65,7 +65,7 @@ returns-in-None-clause-finished g c =
     let e : IsEnded g.N.RunName.run c.loop-next.frames
     = ended g.N.RunName.run s.frames s.place s.levels (g.S.Store.files c.args.store.now) (g.S.Store.files s.store) s.invariant.going c.in-Ok-next.next c.in-Ok-next.ensures.frame c.place_of-end.result c.place_of-end.ensures
     c.in-None.is c.take_items.new.levels (c.take_items.ensures.on c.in_default.is) in
-    c.finished.ensures ∙ ended_told g.N.RunName.run s.frames c.totals.result e (c.totals.ensures ∙ ap (λ (w : Written). totals_of g.N.RunName.run w.number) s.invariant.written)
+    told_as g.N.RunName.run s.frames c.totals.result c.finished.result e (c.totals.ensures ∙ ap (λ (w : Written). totals_of g.N.RunName.run w.number) s.invariant.written) c.finished.ensures
 
 pub write_next-requires-clause-frame : goal.write_next-requires-clause-frame
 write_next-requires-clause-frame g c =
