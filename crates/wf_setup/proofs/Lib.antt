@@ -5,3 +5,6 @@ pub mod Stores
 pub mod ConfigChain
 pub mod Faults
 pub mod CaseChain
+pub mod NoRestart
+pub mod SetUps
+pub mod PlansRead

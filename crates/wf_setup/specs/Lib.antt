@@ -3,3 +3,7 @@ pub mod Errors
 pub mod Asked
 pub mod Steps
 pub mod Cases
+pub mod ReadTexts
+pub mod SetUp
+pub mod CaseLaws
+pub mod Places

@@ -1,6 +1,6 @@
 //! A case: the config of a store, and the plan of it and of the stencil table.
 
-ghost use Rattle.std.specs.Prelude.{◌≡◌, [], Some, IfErr, codes};
+ghost use Rattle.std.specs.Prelude.{◌≡◌, [], Ok, Some, IfOk, IfErr, codes};
 ghost use Rattle.wf_model.specs.Reading.{Gives, told_as};
 ghost use Rattle.wf_model.specs.Files.{Files};
 ghost use Rattle.wf_model.specs.FilesRead.{plan_made, table_text};
@@ -9,6 +9,8 @@ ghost use Rattle.wf_model.specs.Refusals.{plan_refusal};
 ghost use Rattle.wf_setup.specs.Errors.{refusal_of, NoFault, FaultOn, FaultTold};
 ghost use Rattle.wf_setup.specs.Asked.{OnlyRead, FaultAmong, case_names};
 ghost use Rattle.wf_setup.specs.Cases.{case_read};
+ghost use Rattle.wf_setup.specs.ReadTexts.{IsTableOf, IsPlanOf};
+ghost use Rattle.wf_setup.specs.SetUp.{IsSetUp};
 
 use crate::configs::read_config;
 use crate::error::{SetupError, io_error};
@@ -30,6 +32,7 @@ pub struct Case {
 
 #[tactic(auto, using(crate::proofs::Faults::tells_no_fault))]
 fn items_of_text(alloc: Global, config: &Config, text: &[u8]) -> Result<List<Item>, SetupError>
+    ensures table { IfOk result (IsTableOf config.now) }
     ensures items { Gives (λ i. i) refusal_of result (table_text config.now [] (Some text.now)) }
     ensures never { IfErr result NoFault }
 {
@@ -52,6 +55,7 @@ fn items_of_store<S: Store>(
     store: &mut S,
     config: &Config,
 ) -> Result<List<Item>, SetupError>
+    ensures table { IfOk result (IsTableOf config.now) }
     ensures items { (m : Files) → S.files store.old ≡ Some m → Gives (λ i. i) refusal_of result (table_text config.now [] (m (codes "stencil.table"))) }
     ensures only { OnlyRead (S.files store.old) (S.files store.new) (S.faults store.old) (S.faults store.new) }
     ensures fault { IfErr result (λ e. FaultTold e (S.faults store.old) (S.faults store.new) (S.failed store.new)) }
@@ -67,6 +71,7 @@ fn items_of_store<S: Store>(
 /// The plan of a config and of the items of its table, where no functions are stored.
 #[tactic(auto, using(crate::proofs::Faults::tells_no_fault))]
 fn plan_of_items(alloc: Global, config: &Config, items: List<Item>) -> Result<Plan, SetupError>
+    ensures planned { IfOk result (λ p. plan_of config.now [] items ≡ Ok p) }
     ensures plan { Gives (λ p. p) refusal_of result (told_as plan_refusal (plan_of config.now [] items)) }
     ensures never { IfErr result NoFault }
 {
@@ -85,6 +90,7 @@ fn plan_of_store<S: Store>(
     store: &mut S,
     config: &Config,
 ) -> Result<Plan, SetupError>
+    ensures planned { IfOk result (IsPlanOf config.now) }
     ensures plan { (m : Files) → S.files store.old ≡ Some m → Gives (λ p. p) refusal_of result (plan_made [] m config.now) }
     ensures only { OnlyRead (S.files store.old) (S.files store.new) (S.faults store.old) (S.faults store.new) }
     ensures fault { IfErr result (λ e. FaultTold e (S.faults store.old) (S.faults store.new) (S.failed store.new)) }
@@ -107,6 +113,7 @@ pub fn read_case<S: Store>(
     store: &mut S,
     defines: &[(Name, Name)],
 ) -> Result<Case, SetupError>
+    ensures sound { IfOk result (λ c. IsSetUp c.plan) }
     ensures case { (m : Files) → S.files store.old ≡ Some m → Gives (λ c. c) refusal_of result (case_read m defines.now) }
     ensures only { OnlyRead (S.files store.old) (S.files store.new) (S.faults store.old) (S.faults store.new) }
     ensures fault { IfErr result (λ e. FaultTold e (S.faults store.old) (S.faults store.new) (S.failed store.new)) }

@@ -1,6 +1,6 @@
 //! The config of a store's Registry and namelist.
 
-ghost use Rattle.std.specs.Prelude.{◌≡◌, Some, IfErr, codes};
+ghost use Rattle.std.specs.Prelude.{◌≡◌, Ok, Some, IfOk, IfErr, codes};
 ghost use Rattle.wf_model.specs.Reading.{Gives, told_as};
 ghost use Rattle.wf_model.specs.Files.{Files};
 ghost use Rattle.wf_model.specs.Config.{config_of};
@@ -8,6 +8,7 @@ ghost use Rattle.wf_model.specs.Refusals.{config_refusal};
 ghost use Rattle.wf_model.specs.FilesRead.{namelist_text, config_read};
 ghost use Rattle.wf_setup.specs.Errors.{refusal_of, NoFault, FaultOn, FaultTold};
 ghost use Rattle.wf_setup.specs.Asked.{OnlyRead, FaultAmong, config_names};
+ghost use Rattle.wf_setup.specs.ReadTexts.{IsBoundConfig};
 
 use crate::error::{SetupError, io_error};
 use crate::refusals::{config_refusal, namelist_refusal, numbered};
@@ -53,6 +54,7 @@ fn namelist_of_store<S: Store>(alloc: Global, store: &mut S) -> Result<Namelist,
 /// What Registry and namelist say together.
 #[tactic(auto, using(crate::proofs::Faults::tells_no_fault))]
 fn bound(alloc: Global, registry: &Registry, namelist: &Namelist) -> Result<Config, SetupError>
+    ensures given { IfOk result (λ c. config_of registry.now namelist.now ≡ Ok c) }
     ensures config { Gives (λ c. c) refusal_of result (told_as config_refusal (config_of registry.now namelist.now)) }
     ensures never { IfErr result NoFault }
 {
@@ -79,6 +81,7 @@ pub fn read_config<S: Store>(
     store: &mut S,
     defines: &[(Name, Name)],
 ) -> Result<Config, SetupError>
+    ensures bound { IfOk result (IsBoundConfig defines.now) }
     ensures config { (m : Files) → S.files store.old ≡ Some m → Gives (λ c. c) refusal_of result (config_read m defines.now) }
     ensures only { OnlyRead (S.files store.old) (S.files store.new) (S.faults store.old) (S.faults store.new) }
     ensures fault { IfErr result (λ e. FaultTold e (S.faults store.old) (S.faults store.new) (S.failed store.new)) }

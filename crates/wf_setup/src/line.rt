@@ -27,6 +27,13 @@ pub fn number(alloc: Global, number: u32) -> Result<String, AllocError>
     format!(in alloc; "{number}")
 }
 
+/// The place of a byte in decimal digits.
+pub fn place(alloc: Global, at: u64) -> Result<String, AllocError>
+    ensures { IfOk result (λ t. string_bytes t ≡ decimal at) }
+{
+    format!(in alloc; "{at}")
+}
+
 /// A number in decimal digits, with `-` in front where it is below 0.
 pub fn whole(alloc: Global, number: i128) -> Result<String, AllocError>
     ensures { IfOk result (λ t. string_bytes t ≡ whole number) }

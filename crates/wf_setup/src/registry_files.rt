@@ -8,6 +8,7 @@ ghost use Rattle.wf_model.specs.Refusals.{registry_refusal};
 ghost use Rattle.wf_model.specs.FilesRead.{main_source, registry_with, registry_read};
 ghost use Rattle.wf_setup.specs.Errors.{refusal_of, NoFault, FaultOn, FaultTold};
 ghost use Rattle.wf_setup.specs.Asked.{OnlyRead, FaultAmong, FaultWanted, includes_asked, registry_names};
+ghost use Rattle.wf_setup.specs.ReadTexts.{IsReadRegistry, IsReadStep};
 ghost use Rattle.wf_setup.specs.Steps.{step_of};
 
 use crate::error::SetupError;
@@ -36,6 +37,7 @@ fn next_step<S: Store>(
     defines: &[(Name, Name)],
     files: &[SourceFile],
 ) -> Result<Step, SetupError>
+    ensures step { IfOk result (IsReadStep defines.now) }
     ensures next { (m : Files) → S.files store.old ≡ Some m → Gives (λ s. s) refusal_of result (step_of m defines.now files.now) }
     ensures only { OnlyRead (S.files store.old) (S.files store.new) (S.faults store.old) (S.faults store.new) }
     ensures fault { IfErr result (λ e. FaultTold e (S.faults store.old) (S.faults store.new) (S.failed store.new)) }
@@ -60,6 +62,7 @@ fn judged(
     defines: &[(Name, Name)],
     files: &[SourceFile],
 ) -> Result<Registry, SetupError>
+    ensures read { IfOk result (IsReadRegistry defines.now) }
     ensures registry { (m : Files) → Gives (λ r. r) refusal_of result (told_as registry_refusal (registry_with 0 m defines.now files.now)) }
     ensures never { IfErr result NoFault }
 {
@@ -77,6 +80,7 @@ fn registry_with<S: Store>(
     defines: &[(Name, Name)],
     mut files: Vec<SourceFile>,
 ) -> Result<Registry, SetupError>
+    ensures read { IfOk result (IsReadRegistry defines.now) }
     ensures registry { (m : Files) → S.files store.old ≡ Some m → Gives (λ r. r) refusal_of result (told_as registry_refusal (registry_with most_files m defines.now files.items)) }
     ensures only { OnlyRead (S.files store.old) (S.files store.new) (S.faults store.old) (S.faults store.new) }
     ensures fault { IfErr result (λ e. FaultTold e (S.faults store.old) (S.faults store.new) (S.failed store.new)) }
@@ -123,6 +127,7 @@ pub fn registry_of_store<S: Store>(
     store: &mut S,
     defines: &[(Name, Name)],
 ) -> Result<Registry, SetupError>
+    ensures read { IfOk result (IsReadRegistry defines.now) }
     ensures registry { (m : Files) → S.files store.old ≡ Some m → Gives (λ r. r) refusal_of result (registry_read m defines.now) }
     ensures only { OnlyRead (S.files store.old) (S.files store.new) (S.faults store.old) (S.faults store.new) }
     ensures fault { IfErr result (λ e. FaultTold e (S.faults store.old) (S.faults store.new) (S.failed store.new)) }

@@ -2,6 +2,7 @@ use Rattle.std.proofs.Common.{refl, codes}
 use Rattle.wf_setup.specs.Errors.{refusal_of}
 use Rattle.wf_setup.specs.Asked.{config_names, case_names}
 use Rattle.wf_setup.proofs.CaseChain.{case_config_fails, case_plan_fails, case_given, config_among, table_among}
+use Rattle.wf_setup.proofs.SetUps.{is_set_up}
 use Rattle.wf_setup.proofs.Stores.{told_still}
 use Rattle.wf_setup.proofs.Faults.{among_from, among_on}
 use Rattle.wf_setup.proofs.cases.read_case.Goals as goal
@@ -27,3 +28,7 @@ pub returns-in-Ok-plan_of_store-clause-case : goal.returns-in-Ok-plan_of_store-c
 returns-in-Ok-plan_of_store-clause-case g c = λ m told.
     let still = told_still (g.S.Store.files c.args.store.now) (g.S.Store.files c.read_config.new.store) (g.S.Store.faults c.args.store.now) (g.S.Store.faults c.read_config.new.store) c.in-Ok.ensures.only m told in
     case_given m c.args.defines.now c.in-Ok.config c.in-Ok-plan_of_store.plan (c.in-Ok.ensures.config m told) (c.in-Ok-plan_of_store.ensures.plan m still)
+
+pub returns-in-Ok-plan_of_store-clause-sound : goal.returns-in-Ok-plan_of_store-clause-sound
+returns-in-Ok-plan_of_store-clause-sound g c =
+    is_set_up c.args.defines.now c.in-Ok.config c.in-Ok-plan_of_store.plan c.in-Ok.ensures.bound c.in-Ok-plan_of_store.ensures.planned
