@@ -1,11 +1,11 @@
 -- Cells in rows and columns: their places, writes, and means of neighbours.
-use Rattle.std.proofs.Common.{◌≡◌, ◌≢◌, ℕ, ◌+◌, ◌-◌, ◌*◌, ◌/◌, ◌<◌, ◌≤◌, List, length, set, get_or, ℤ, pos, unsigned_abs, refl, sym, ap, ◌∙◌, subst, arith, Bool, true, false, cond, to_z}
+use Rattle.std.proofs.Common.{◌≡◌, ℕ, ◌+◌, ◌-◌, ◌*◌, ◌<◌, ◌≤◌, List, length, set, get_or, ℤ, pos, unsigned_abs, refl, sym, ap, subst, arith, Bool, true, false, cond, to_z}
 use Rattle.std.proofs.lemmas.List.{get_or-set_same, get_or-set_other}
 use Rattle.std.proofs.lemmas.Nat.{same_from_place, mul-add-lt}
 use Rattle.std.proofs.lemmas.Bool.Decides.{nat_tests}
 use Rattle.std.proofs.lemmas.Int.{to_z_pos}
 use Rattle.std.specs.Int.{w32}
-use Rattle.wf_top.specs.Cells.{cell, size_at, mean_at, next_at, is_within, AreSmall}
+use Rattle.wf_top.specs.Cells.{cell, mean_at, next_at, is_within, AreSmall}
 
 -- a place within the rows
 pub place_within : (w r c h : ℕ) → r < h → c < w → r * w + c < h * w

@@ -1,11 +1,11 @@
 -- All patches of a domain: what they hold after an exchange and a step.
-use Rattle.std.proofs.Common.{◌≡◌, ◌≢◌, ℕ, ◌+◌, ◌-◌, ◌*◌, ◌<◌, ◌≤◌, List, ◌++◌, length, take, drop, get_or, ℤ, refl, sym, ap, ◌∙◌, subst, arith, inl, inr, Vec, Global}
-use Rattle.std.proofs.lemmas.Bool.{cases_lt, cases_eq}
+use Rattle.std.proofs.Common.{◌≡◌, ◌≢◌, ℕ, ◌+◌, ◌-◌, ◌<◌, ◌≤◌, List, ◌++◌, length, take, drop, get_or, ℤ, sym, ap, ◌∙◌, subst, arith, inl, inr, Vec, Global}
+use Rattle.std.proofs.lemmas.Bool.{cases_eq}
 use Rattle.std.proofs.Math.Seq.{take-append_seam}
 use Rattle.wf_model.specs.Demo.{demo_value}
 use Rattle.wf_top.specs.declared.patch.Patch.{Patch}
 use Rattle.wf_top.specs.declared.patches.Patches.{Patches}
-use Rattle.wf_top.specs.Memories.{Inside, Hold, Holds, Each, IsPatch, KeepsShape, block_start}
+use Rattle.wf_top.specs.Memories.{Holds, Each, IsPatch, KeepsShape, block_start}
 use Rattle.wf_top.specs.Domains.{IsDomain, SameSize, AllHold, HoldSteps, HoldGrid}
 use Rattle.wf_top.proofs.PatchLaws.{patch_kept, block_first, block_last, block_after, block_some, block_within}
 

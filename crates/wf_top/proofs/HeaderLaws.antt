@@ -1,11 +1,7 @@
 -- The demo's header: it is the plan's, it is sound, and its file is not too long.
-use Rattle.std.proofs.Common.{◌≡◌, ◌⊎◌, ℕ, ◌+◌, ◌-◌, ◌*◌, ◌<◌, ◌≤◌, ◌^◌, List, [], ◌∷◌, length, filter, All, refl, sym, ap, ◌∙◌, subst, arith, rules, inl, inr, codes, lit<, lit≤, max, Bool, true, false, not, IsTrue}
+use Rattle.std.proofs.Common.{◌≡◌, ℕ, ◌+◌, ◌-◌, ◌*◌, ◌<◌, ◌≤◌, ◌^◌, List, [], ◌∷◌, length, filter, All, refl, ap, ◌∙◌, arith, inl, codes, lit<, lit≤, max, false, not, IsTrue}
 use Rattle.std.proofs.lemmas.List.Elements.{All-from_recursion}
 use Rattle.std.proofs.lemmas.Bool.Decides.{nat_tests}
-use Rattle.wf_model.specs.declared.header.Header.{Header}
-use Rattle.wf_model.specs.declared.header.Dim.{Dim}
-use Rattle.wf_model.specs.declared.header.Att.{Att}
-use Rattle.wf_model.specs.declared.header.Var.{Var}
 use Rattle.wf_model.specs.Plans.{field_of, domain_of}
 use Rattle.wf_model.specs.Bytes.{header_bytes}
 use Rattle.wf_model.specs.Streams.{stream_levels}

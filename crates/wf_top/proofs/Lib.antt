@@ -9,3 +9,7 @@ pub mod RangeLaws
 pub mod RecordLaws
 pub mod ValueLaws
 pub mod CheckLaws
+pub mod NameLaws
+pub mod WordLaws
+pub mod PlainLaws
+pub mod RunLaws

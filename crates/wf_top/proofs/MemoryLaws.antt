@@ -1,17 +1,15 @@
 -- The memory of a patch, counted and summed.
-use Rattle.std.proofs.Common.{◌≡◌, ◌⊎◌, ℕ, zero, suc, ◌+◌, ◌-◌, ◌*◌, ◌/◌, ◌<◌, ◌≤◌, Bool, true, false, cond, nat_lt, nat_le, ◌&&◌, List, [], ◌∷◌, ◌++◌, length, map, get_or, ℤ, pos, unsigned_abs, sum_by, refl, sym, ap, ◌∙◌, subst, arith, inl, inr, length-append}
+use Rattle.std.proofs.Common.{◌≡◌, ◌⊎◌, ℕ, ◌+◌, ◌-◌, ◌*◌, ◌<◌, ◌≤◌, true, false, nat_lt, nat_le, ◌&&◌, List, [], ◌∷◌, ◌++◌, length, map, ℤ, unsigned_abs, sum_by, refl, sym, ap, ◌∙◌, subst, arith, inl, inr, length-append}
 use Rattle.std.specs.List.{range_with_len}
 use Rattle.std.proofs.lemmas.Bool.{cases_lt}
 use Rattle.std.proofs.lemmas.Bool.Decides.{nat_tests}
 use Rattle.std.proofs.lemmas.List.Sums.{sum_by-append}
 use Rattle.std.proofs.lemmas.List.FromFn.{length-map-range_with_len}
 use Rattle.wf_model.specs.declared.demo.Demo.{Demo}
-use Rattle.wf_model.specs.Lockstep.{MemoryLine}
-use Rattle.wf_model.specs.Plans.{up_to}
-use Rattle.wf_model.specs.Demo.{demo_value, column_sum, if_column, held_columns, first_column, end_column, demo_memory}
+use Rattle.wf_model.specs.Demo.{demo_value, column_sum, if_column, held_columns, first_column, end_column}
 use Rattle.wf_top.specs.declared.patch.Patch.{Patch}
-use Rattle.wf_top.specs.Cells.{cell, size_at, AreSmall}
-use Rattle.wf_top.specs.Memories.{Hold, Holds, IsPatch, block_start}
+use Rattle.wf_top.specs.Cells.{size_at, AreSmall}
+use Rattle.wf_top.specs.Memories.{Hold, Holds, IsPatch}
 use Rattle.wf_top.proofs.ValueLaws.{value_small}
 use Rattle.wf_top.proofs.RangeLaws.{sum_split, sum_same, sum_map}
 

@@ -1,10 +1,9 @@
 -- A row of the domain from the rows of all patches.
-use Rattle.std.proofs.Common.{◌≡◌, ℕ, ◌+◌, ◌-◌, ◌*◌, ◌<◌, ◌≤◌, List, ◌++◌, length, map, take, drop, get_or, ℤ, pos, refl, sym, ap, ◌∙◌, subst, arith, append_assoc, length-take, length-drop}
+use Rattle.std.proofs.Common.{◌≡◌, ℕ, ◌+◌, ◌-◌, ◌*◌, ◌<◌, ◌≤◌, List, ◌++◌, length, map, take, drop, get_or, ℤ, pos, sym, ap, ◌∙◌, arith, append_assoc, length-take, length-drop}
 use Rattle.std.specs.List.{range_with_len}
 use Rattle.std.proofs.lemmas.List.{ext_get_or, get_or-take, get_or-drop}
 use Rattle.std.proofs.lemmas.List.FromFn.{get_or-map-range_with_len, length-map-range_with_len}
 use Rattle.wf_top.specs.declared.patch.Patch.{Patch}
-use Rattle.wf_top.specs.Cells.{cell}
 use Rattle.wf_top.specs.Memories.{Inside, IsPatch, block_start}
 use Rattle.wf_top.proofs.CellLaws.{place_within}
 use Rattle.wf_top.proofs.RangeLaws.{map_split}

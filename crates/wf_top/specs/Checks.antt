@@ -1,7 +1,6 @@
 -- What `check` answers until the halo check is made of the plan, and how it ends.
-use Rattle.std.specs.Prelude.{◌≡◌, ◌⊎◌, ℕ, Bool, true, false, List, [], ◌∷◌, ◌++◌, flat_map, Option, Some, Result, Ok, Err, Contains, codes}
-use Rattle.std.specs.Str.{bytes_eq}
-use Rattle.wf_io.specs.Files.{Told, Rose}
+use Rattle.std.specs.Prelude.{◌≡◌, ◌⊎◌, ℕ, Bool, List, [], ◌∷◌, ◌++◌, flat_map, Option, Some, Result, codes}
+use Rattle.wf_io.specs.Files.{Told}
 use Rattle.wf_model.specs.declared.config.Config.{Config}
 use Rattle.wf_model.specs.Letters.{Text}
 use Rattle.wf_model.specs.KeptLines.{Defines}
@@ -9,12 +8,10 @@ use Rattle.wf_model.specs.NamesOf.{names_of}
 use Rattle.wf_model.specs.Files.{Files}
 use Rattle.wf_model.specs.Refusals.{Refusal, line}
 use Rattle.wf_model.specs.Answer.{Answer, after}
-use Rattle.wf_model.specs.Demo.{word_at, usage, tool_answer}
-use Rattle.wf_words.specs.Check.{check_words}
 use Rattle.wf_setup.specs.declared.cases.Case.{Case}
 use Rattle.wf_setup.specs.Cases.{case_read}
 use Rattle.wf_setup.specs.Asked.{case_names}
-use Rattle.wf_top.specs.Ends.{Ended, store_text, memory_text}
+use Rattle.wf_top.specs.Ends.{ReadFailed, memory_text}
 
 -- ---- the answer
 
@@ -43,14 +40,6 @@ pub record CheckAnswered (defines : Defines) (old new : Option Files) (Says : �
   pub files : Told old new (λ m n. n ≡ m)
   pub said : Says (read_answer read).status (read_answer read).text
 
--- a call of the store failed, and the store counted it: it was the last call, on a file that the command reads, and the
--- text names it
-pub record CheckFailed (defines : Defines) (old new : Option Files) (before after : ℕ) (failed : List ℕ) (Says : ℕ → List ℕ → Type 0) : Type 0 where
-  pub counted : Rose before after
-  pub name : (m : Files) → old ≡ Some m → Contains (case_names m defines) failed
-  pub files : Told old new (λ m n. n ≡ m)
-  pub said : Says 9 (store_text failed)
-
 -- memory was wanting
 pub record CheckLacked (old new : Option Files) (Says : ℕ → List ℕ → Type 0) : Type 0 where
   pub files : Told old new (λ m n. n ≡ m)
@@ -58,23 +47,4 @@ pub record CheckLacked (old new : Option Files) (Says : ℕ → List ℕ → Typ
 
 abbrev pub CheckEnded : Defines → Option Files → Option Files → ℕ → ℕ → List ℕ → (ℕ → List ℕ → Type 0) → Type 0
 CheckEnded defines old new before after failed Says =
-    CheckAnswered defines old new Says ⊎ (CheckFailed defines old new before after failed Says ⊎ CheckLacked old new Says)
-
--- by the words after the command
-abbrev pub CheckWordsEnded : Result Defines (Unit {0}) → Option Files → Option Files → ℕ → ℕ → List ℕ → (ℕ → List ℕ → Type 0) → Type 0
-CheckWordsEnded (Ok defines) old new before after failed Says = CheckEnded defines old new before after failed Says
-CheckWordsEnded (Err none) old new before after failed Says = Ended usage old new before after failed Says
-
--- ---- any command
-
--- the first word is `check`
-abbrev pub is_check : List Text → Bool
-is_check words = bytes_eq (word_at words 0) (codes "check")
-
-abbrev pub EndedAs : Bool → List Text → Option Files → Option Files → ℕ → ℕ → List ℕ → (ℕ → List ℕ → Type 0) → Type 0
-EndedAs true words old new before after failed Says = CheckWordsEnded (check_words words) old new before after failed Says
-EndedAs false words old new before after failed Says = Ended (tool_answer words) old new before after failed Says
-
--- how a command ends, by its words
-abbrev pub ToolEnded : List Text → Option Files → Option Files → ℕ → ℕ → List ℕ → (ℕ → List ℕ → Type 0) → Type 0
-ToolEnded words = EndedAs (is_check words) words
+    CheckAnswered defines old new Says ⊎ (ReadFailed (λ m. case_names m defines) old new before after failed Says ⊎ CheckLacked old new Says)

@@ -1,9 +1,10 @@
 -- How a command ends: what it did in the store, what it printed, and its status.
-use Rattle.std.specs.Prelude.{◌≡◌, ◌⊎◌, ℕ, ◌≤◌, List, [], ◌∷◌, ◌++◌, length, take, Option, codes}
+use Rattle.std.specs.Prelude.{◌≡◌, ◌⊎◌, ℕ, ◌≤◌, List, [], ◌∷◌, ◌++◌, length, take, Option, Some, Contains, codes}
 use Rattle.wf_io.specs.Files.{Told, Rose}
 use Rattle.wf_model.specs.Files.{Files}
 use Rattle.wf_model.specs.StoreRuns.{Ran, Stopped}
 use Rattle.wf_model.specs.Failed.{Failed}
+use Rattle.wf_model.specs.Letters.{Text}
 use Rattle.wf_model.specs.Refusals.{line}
 use Rattle.wf_model.specs.Answer.{Answer}
 use Rattle.wf_model.specs.Demo.{demo_file}
@@ -56,6 +57,12 @@ pub record AnsweredWhole (answer : Answer) (old new : Option Files) (Says : ℕ 
 
 -- a call of the answer failed, on the file that is said, and the store counted it: it was the last call, and those before
 -- it were made
+pub record CallFailed (answer : Answer) (old new : Option Files) (before after : ℕ) (failed : List ℕ) (Says : ℕ → List ℕ → Type 0) : Type 0 where
+  pub counted : Rose before after
+  pub files : Failed answer.calls failed old new
+  pub said : Says 9 (store_text failed)
+
+-- the same of a demo, all of whose calls are on one file
 pub record StoreFailed (answer : Answer) (old new : Option Files) (before after : ℕ) (failed : List ℕ) (Says : ℕ → List ℕ → Type 0) : Type 0 where
   pub counted : Rose before after
   pub name : failed ≡ demo_file
@@ -67,8 +74,21 @@ pub record MemoryLacked (answer : Answer) (old new : Option Files) (Says : ℕ �
   pub files : Stopped answer.calls old new
   pub said : Says 10 memory_text
 
+-- a call of the store failed while files were read, and the store counted it: it was the last call, on a file that is asked
+-- for, and the text names it. The files stay
+pub record ReadFailed (asked : Files → List Text) (old new : Option Files) (before after : ℕ) (failed : List ℕ) (Says : ℕ → List ℕ → Type 0) : Type 0 where
+  pub counted : Rose before after
+  pub name : (m : Files) → old ≡ Some m → Contains (asked m) failed
+  pub files : Told old new (λ m n. n ≡ m)
+  pub said : Says 9 (store_text failed)
+
 -- the answer is given whole, or a counted fault of the store or want of memory stopped it; of the store: its files and its
 -- count of faults, before and after, and the name of its last call where that call failed
+abbrev pub CallsEnded : Answer → Option Files → Option Files → ℕ → ℕ → List ℕ → (ℕ → List ℕ → Type 0) → Type 0
+CallsEnded answer old new before after failed Says =
+    AnsweredWhole answer old new Says ⊎ (CallFailed answer old new before after failed Says ⊎ MemoryLacked answer old new Says)
+
+-- the same of a command without files but a demo's
 abbrev pub Ended : Answer → Option Files → Option Files → ℕ → ℕ → List ℕ → (ℕ → List ℕ → Type 0) → Type 0
 Ended answer old new before after failed Says =
     AnsweredWhole answer old new Says ⊎ (StoreFailed answer old new before after failed Says ⊎ MemoryLacked answer old new Says)

@@ -6,3 +6,7 @@ pub mod Ends
 pub mod Told
 pub mod Limits
 pub mod Checks
+pub mod Ready
+pub mod Names
+pub mod Plain
+pub mod Tool

@@ -1,9 +1,10 @@
 //! The command `check`.
 
 ghost use Rattle.std.specs.Prelude.{map, string_bytes};
-ghost use Rattle.wf_words.specs.Check.{check_words};
+ghost use Rattle.wf_words.specs.Commands.{check_words};
 ghost use Rattle.wf_top.specs.Ends.{Said};
-ghost use Rattle.wf_top.specs.Checks.{CheckEnded, CheckWordsEnded};
+ghost use Rattle.wf_top.specs.Checks.{CheckEnded};
+ghost use Rattle.wf_top.specs.Tool.{WordsEnded};
 
 use crate::check_text::{read_text, store_text};
 use crate::say::say;
@@ -44,7 +45,7 @@ pub fn end_check<S: Store, O: Sink>(
     store: &mut S,
     out: &mut O,
 ) -> u8
-    ensures { CheckWordsEnded (check_words (map string_bytes words.now)) (S.files store.old) (S.files store.new) (S.faults store.old) (S.faults store.new) (S.failed store.new)
+    ensures { WordsEnded CheckEnded (check_words (map string_bytes words.now)) (S.files store.old) (S.files store.new) (S.faults store.old) (S.faults store.new) (S.failed store.new)
         (λ status text. Said status text (O.taken out.old) (O.taken out.new) (O.faults out.old) (O.faults out.new) result) }
 {
     match check_words(alloc, words) {

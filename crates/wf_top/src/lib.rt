@@ -9,7 +9,9 @@ mod header;
 mod memory;
 mod patch;
 mod patches;
+mod plain;
 mod record;
+mod run_text;
 mod say;
 mod text;
 mod top;
@@ -20,5 +22,7 @@ pub use top::tool_main;
 
 #[cfg(test)]
 mod check_tests;
+#[cfg(test)]
+mod plain_tests;
 #[cfg(test)]
 mod tests;

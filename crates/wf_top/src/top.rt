@@ -8,15 +8,16 @@ ghost use Rattle.wf_model.specs.Demo.{demo_file, demo_calls, demo_summary, demo_
 ghost use Rattle.wf_top.specs.Limits.{InLimits};
 ghost use Rattle.wf_model.specs.Failed.{Failed};
 ghost use Rattle.wf_top.specs.Ends.{Said, Ended};
-ghost use Rattle.wf_top.specs.Checks.{ToolEnded};
+ghost use Rattle.wf_top.specs.Tool.{ToolEnded};
 
 use crate::checks::end_check;
 use crate::frames::write_file;
 use crate::header::demo_header;
 use crate::patches::Patches;
+use crate::plain::end_plain;
 use crate::say::say;
 use crate::text::{demo_text, too_many_patches};
-use crate::words::{is_check, read_words};
+use crate::words::{is_command, read_words};
 use std::alloc::Global;
 use wf_io::{IoError, Sink, Store};
 use wf_model::Demo;
@@ -74,7 +75,7 @@ fn end_demo<S: Store, O: Sink>(alloc: Global, demo: &Demo, store: &mut S, out: &
     }
 }
 
-// Runs a command that is not `check`.
+// Runs a command that is neither `check` nor `plain`.
 fn end_other<S: Store, O: Sink>(alloc: Global, words: &[String], store: &mut S, out: &mut O) -> u8
     ensures { Ended (tool_answer (map string_bytes words.now)) (S.files store.old) (S.files store.new) (S.faults store.old) (S.faults store.new) (S.failed store.new)
         (λ status text. Said status text (O.taken out.old) (O.taken out.new) (O.faults out.old) (O.faults out.new) result) }
@@ -94,20 +95,27 @@ fn end_other<S: Store, O: Sink>(alloc: Global, words: &[String], store: &mut S, 
 /// - `check [--define LIST]`: the files `Registry`, with the includes that it wants, `namelist.input` and `stencil.table` of
 ///   the store are read and judged, with the names of LIST, `NAME=VALUE,NAME=VALUE`, defined for the Registry's ifdefs, and
 ///   the plan that they ask for is tested.
+/// - `plain [--define LIST]`: the same files are read and judged, and then the input file `wrfinput_d01`, where the namelist
+///   asks for it; the whole domain is stepped point by point, and its history is written, frame by frame.
 ///
 /// The statuses are this project's own:
 /// - 0: of `demo`, the files are written; the text is the summary, and a line on each patch's memory or one on all. Of
-///   `check`, nothing is refused; the text is a line `field NAME` for each active field level, and `read`.
+///   `check`, nothing is refused; the text is a line `field NAME` for each active field level, and `read`. Of `plain`, all
+///   frames are written; the text is the summary alone, `files F records R bytes B sum S`: files created, records written,
+///   bytes behind the headers, and their sum.
 /// - 1: the words are no command; the text is the usage line.
 /// - 2, 3, 4: the Registry, the namelist or the config, the table or the plan is refused; the text says what is wrong and
 ///   where.
+/// - 6: an input file is refused; the text is `input FILE KIND`, with ` at N` behind where there is a place.
 /// - 7: there are more patches than columns; the text says so.
+/// - 8: a value does not fit; the text is `overflow DOMAIN STEP WHAT FIELD K J I`, the first such point, with all indices from
+///   1. The frames before it are written, and no others.
 /// - 9: a call of the store failed, which the store counted; no call followed it. The text names the file.
 /// - 10: want of memory.
 /// - 11: the sink failed, which it counted; this takes the place of the status that the text was put for.
 ///
-/// `check` leaves the files of the store as they were, and so do 1 and 7. After 9, 10 and 11 of `demo` a first part of the
-/// calls of a whole run was made.
+/// `check` leaves the files of the store as they were, and so do 1 to 7. After 9, 10 and 11 of `demo` and `plain` a first part
+/// of the calls of a whole run was made.
 pub fn tool_main<S: Store, O: Sink>(
     alloc: Global,
     words: &[String],
@@ -117,8 +125,10 @@ pub fn tool_main<S: Store, O: Sink>(
     ensures { ToolEnded (map string_bytes words.now) (S.files store.old) (S.files store.new) (S.faults store.old) (S.faults store.new) (S.failed store.new)
         (λ status text. Said status text (O.taken out.old) (O.taken out.new) (O.faults out.old) (O.faults out.new) result) }
 {
-    if is_check(words) {
+    if is_command("check", words) {
         end_check(alloc, words, store, out)
+    } else if is_command("plain", words) {
+        end_plain(alloc, words, store, out)
     } else {
         end_other(alloc, words, store, out)
     }

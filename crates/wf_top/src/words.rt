@@ -6,7 +6,7 @@ ghost use Rattle.std.specs.Char.{is_ascii_digit};
 ghost use Rattle.wf_model.specs.Letters.{is_digits, digits_value};
 ghost use Rattle.wf_model.specs.Demo.{is_word_number, word_number, word_at, demo_numbers, demo_of};
 ghost use Rattle.wf_top.specs.Limits.{InLimits};
-ghost use Rattle.wf_top.specs.Checks.{is_check};
+ghost use Rattle.wf_top.specs.Tool.{is_command};
 
 use wf_model::Demo;
 
@@ -99,9 +99,9 @@ pub fn read_words(words: &[String]) -> Option<Demo>
     }
 }
 
-/// Whether the words ask for `check`, by the first one.
-pub fn is_check(words: &[String]) -> bool
-    ensures { result ≡ is_check (map string_bytes words.now) }
+/// Whether the words ask for the command of this name, by the first one.
+pub fn is_command(name: &str, words: &[String]) -> bool
+    ensures { result ≡ is_command name.now (map string_bytes words.now) }
 {
-    word_at(words, 0) == b"check".as_slice()
+    word_at(words, 0) == name.as_bytes()
 }

@@ -1,3 +1,3 @@
 mod Parts
 mod Words
-pub mod WordsOfCheck
+pub mod WordsOf

@@ -5,7 +5,7 @@ use Rattle.std.proofs.lemmas.List.Elements.{All-from_get_or}
 use Rattle.std.proofs.lemmas.List.Sums.{fails_before_first}
 use Rattle.std.proofs.lemmas.List.Splits.{slice_split_first, slice_split_none}
 use Rattle.wf_model.proofs.FirstPlaces.{found, not_found}
-use Rattle.wf_words.specs.Check.{is_comma}
+use Rattle.wf_words.specs.Commands.{is_comma}
 
 pub one_part : (list : List ℕ) → position is_comma list ≡ None → slice_split is_comma list ≡ list ∷ []
 one_part list is =

@@ -1,2 +1,2 @@
-pub mod Check
-pub mod WordsOfCheck
+pub mod Commands
+pub mod WordsOf

@@ -3,7 +3,7 @@
 ghost use Rattle.std.specs.Prelude.{◌≡◌, ◌≢◌, [], IfOk, IfErr, map, false, codes, option_map};
 ghost use Rattle.std.specs.String.{string_bytes};
 ghost use Rattle.clap.specs.Words.{app_of, rule_of, with_rule};
-ghost use Rattle.wf_words.specs.Check.{check_app, option_rule, refusals, define_text};
+ghost use Rattle.wf_words.specs.Commands.{command_app, option_rule, refusals, define_text};
 ghost use Rattle.wf_words.specs.declared.error.WordsError.TheVariants.{Usage};
 
 use crate::error::WordsError;
@@ -25,23 +25,27 @@ fn add<'a>(command: Command<'a>, arg: Arg<'a>) -> Result<Command<'a>, AllocError
     command.arg(arg)
 }
 
-/// The command `check` with its option.
-#[tactic(auto, unfolding(crate::specs::Check::check_app))]
-fn check<'a>(alloc: Global) -> Result<Command<'a>, AllocError>
-    ensures { IfOk result (λ c. app_of c ≡ check_app) }
+/// The command of this name with its option.
+#[tactic(auto, unfolding(crate::specs::Commands::command_app))]
+fn command_named<'a>(alloc: Global, name: &'a str) -> Result<Command<'a>, AllocError>
+    ensures { IfOk result (λ c. app_of c ≡ command_app name.entry.now) }
 {
-    let empty = Command::new(alloc, "check");
+    let empty = Command::new(alloc, name);
     let whole = add(empty, option(alloc, "define"))?;
     Ok(whole)
 }
 
 /// What stands behind `--define`, if it is there. The name of the command is the first word.
-pub fn define_text<'a>(alloc: Global, words: &'a [String]) -> Result<Option<&'a str>, WordsError>
-    ensures grammar { IfOk result (λ _. refusals (map string_bytes words.entry.now) ≡ []) }
-    ensures usage { IfErr result (λ e. e ≡ Usage → refusals (map string_bytes words.entry.now) ≢ []) }
-    ensures text { IfOk result (λ o. option_map (λ s. s.now) o ≡ define_text (map string_bytes words.entry.now)) }
+pub fn define_text<'a>(
+    alloc: Global,
+    name: &'a str,
+    words: &'a [String],
+) -> Result<Option<&'a str>, WordsError>
+    ensures grammar { IfOk result (λ _. refusals name.entry.now (map string_bytes words.entry.now) ≡ []) }
+    ensures usage { IfErr result (λ e. e ≡ Usage → refusals name.entry.now (map string_bytes words.entry.now) ≢ []) }
+    ensures text { IfOk result (λ o. option_map (λ s. s.now) o ≡ define_text name.entry.now (map string_bytes words.entry.now)) }
 {
-    let command = match check(alloc) {
+    let command = match command_named(alloc, name) {
         Ok(command) => command,
         Err(_) => return Err(WordsError::Memory),
     };

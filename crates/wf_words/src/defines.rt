@@ -4,7 +4,7 @@ ghost use Rattle.std.specs.Prelude.{◌≡◌, ◌+◌, ◌<◌, ◌∷◌, IfSo
 ghost use Rattle.std.specs.List.{after_first, before_first, slice_split};
 ghost use Rattle.wf_model.specs.KeptLines.{is_equals};
 ghost use Rattle.wf_model.specs.Reading.{Gives};
-ghost use Rattle.wf_words.specs.Check.{defines_of, fault_of, is_comma, pair_of, parts, left_of};
+ghost use Rattle.wf_words.specs.Commands.{defines_of, fault_of, is_comma, pair_of, parts, left_of};
 
 use crate::error::WordsError;
 use std::alloc::Global;

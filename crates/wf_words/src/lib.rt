@@ -1,12 +1,12 @@
 //! The words of a command line after the name of a command, read as WRF's tools read options.
 #![tactic(auto)]
 
-mod check;
 mod command;
+mod commands;
 mod defines;
 mod error;
 
-pub use check::{check_words, words_of_check};
+pub use commands::{check_words, plain_words, words_of_check, words_of_plain};
 pub use error::WordsError;
 
 #[cfg(test)]

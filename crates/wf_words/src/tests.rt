@@ -1,14 +1,19 @@
 use super::*;
 use std::test::Fail;
 
-/// The pairs as `NAME=VALUE|`, or `usage`.
+/// The pairs as `NAME=VALUE|`, or the error. The first word is the name of the command.
 fn answer(rt: &HostRuntime, words: &[&str]) -> Result<String, Fail> {
     let mut owned = Vec::new(rt.alloc());
     for word in words {
         owned.push((*word).to_string(rt.alloc())?)?;
     }
+    let read = if words.first() == Some(&"plain") {
+        plain_words(rt.alloc(), &owned)
+    } else {
+        check_words(rt.alloc(), &owned)
+    };
     let mut out = String::new(rt.alloc());
-    match check_words(rt.alloc(), &owned) {
+    match read {
         Ok(pairs) => {
             for (name, value) in &pairs {
                 for b in name.as_slice() {
@@ -39,6 +44,19 @@ fn check_defines_names(rt: HostRuntime) -> Result<(), Fail> {
     );
     assert_eq!(rt;
         answer(&rt, &["check", "--memory"])?.as_str(),
+        "the words are none of this command"
+    );
+    Ok(())
+}
+
+#[test]
+fn plain_defines_names(rt: HostRuntime) -> Result<(), Fail> {
+    assert_eq!(rt;
+        answer(&rt, &["plain", "--define", "NMM=1"])?.as_str(),
+        "NMM=1|"
+    );
+    assert_eq!(rt;
+        answer(&rt, &["plain", "--memory"])?.as_str(),
         "the words are none of this command"
     );
     Ok(())

@@ -1,6 +1,6 @@
-use Rattle.std.proofs.Common.{arith, refl, sym, ap, ◌∙◌, ◌≡◌, ◌≢◌, ℕ, ◌+◌, ◌*◌, ◌%◌, ◌<◌, length, length-set, below_more, pos, to_z, ℤ}
+use Rattle.std.proofs.Common.{arith, ◌∙◌, ◌+◌, ◌*◌, ◌<◌, length, length-set, below_more, to_z}
 use Rattle.std.specs.Int.{w32}
-use Rattle.wf_top.specs.Cells.{cell, first_at}
+use Rattle.wf_top.specs.Cells.{first_at}
 use Rattle.wf_top.proofs.CellLaws.{place_within, cell-set_same, cell-set_other, signed_small}
 use Rattle.wf_top.proofs.cells.first_row.Goals as goal
 

@@ -1,4 +1,4 @@
-use Rattle.std.proofs.Common.{◌≡◌, ◌≢◌, ℕ, ◌+◌, ◌<◌, ◌≤◌, length, pos}
+use Rattle.std.proofs.Common.{◌≡◌, ◌≢◌, ℕ, ◌+◌, ◌<◌, length, pos}
 use Rattle.wf_top.specs.Cells.{cell, first_at}
 use Rattle.wf_top.proofs.cells.first_row.Given as goal
 

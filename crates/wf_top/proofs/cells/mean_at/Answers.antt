@@ -1,5 +1,5 @@
-use Rattle.std.proofs.Common.{arith, ◌+◌, ◌-◌, ◌*◌, ◌<◌}
-use Rattle.wf_top.proofs.CellLaws.{SmallBeside, small_beside}
+use Rattle.std.proofs.Common.{arith}
+use Rattle.wf_top.proofs.CellLaws.{small_beside}
 use Rattle.wf_top.proofs.cells.mean_at.Goals as goal
 
 pub overflow_add-sum : goal.overflow_add-sum

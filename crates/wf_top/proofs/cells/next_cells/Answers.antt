@@ -1,4 +1,4 @@
-use Rattle.std.proofs.Common.{arith, refl, sym, ap, ◌∙◌, ◌≡◌, ◌≢◌, ◌⊎◌, inl, inr, ℕ, ◌+◌, ◌*◌, ◌<◌, ◌≤◌, length, below_more, pos, ℤ, List}
+use Rattle.std.proofs.Common.{arith, sym, ap, ◌∙◌, ◌≡◌, inl, inr, ℕ, ◌+◌, ◌<◌, ◌≤◌, below_more, pos, ℤ, List}
 use Rattle.std.proofs.lemmas.Bool.{cases_lt}
 use Rattle.wf_top.specs.Cells.{cell, mean_at, next_at}
 use Rattle.wf_top.proofs.CellLaws.{next_inside, next_border}

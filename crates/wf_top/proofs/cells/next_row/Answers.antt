@@ -1,4 +1,4 @@
-use Rattle.std.proofs.Common.{arith, refl, sym, ap, ◌∙◌, ◌≡◌, ◌≢◌, ℕ, ◌+◌, ◌*◌, ◌<◌, length, length-set, slice_set, below_more, pos, to_z, ℤ}
+use Rattle.std.proofs.Common.{arith, ap, ◌∙◌, ◌≡◌, ◌+◌, ◌*◌, ◌<◌, length, length-set, slice_set, below_more, pos, to_z}
 use Rattle.std.specs.Int.{w32}
 use Rattle.wf_top.specs.Cells.{cell, mean_at}
 use Rattle.wf_top.proofs.CellLaws.{place_within, cell-set_same, cell-set_other, signed_small}

@@ -1,7 +1,6 @@
-use Rattle.std.proofs.Common.{arith, refl, sym, ap, ◌∙◌, ◌≡◌, ◌≢◌, ℕ, ◌+◌, ◌*◌, ◌<◌, length, length-set, below_more, get_or, pos, ℤ, List, to_z, of_z}
+use Rattle.std.proofs.Common.{arith, ◌∙◌, ◌≡◌, ◌+◌, ◌*◌, ◌<◌, length, length-set, below_more, get_or, pos, to_z, of_z}
 use Rattle.std.specs.Int.{w32}
 use Rattle.std.proofs.lemmas.Int.{ints, to_z-of_z}
-use Rattle.wf_top.specs.Cells.{cell}
 use Rattle.wf_top.proofs.CellLaws.{place_within, cell-set_same, cell-set_other}
 use Rattle.wf_top.proofs.cells.write_column.Goals as goal
 

@@ -1,7 +1,8 @@
-use Rattle.std.proofs.Common.{◌∙◌, ap, Ok, Err}
+use Rattle.std.proofs.Common.{◌∙◌, ap, Ok, Err, inl, inr}
+use Rattle.wf_setup.specs.Asked.{case_names}
 use Rattle.wf_setup.specs.Errors.{refusal_in}
 use Rattle.wf_top.specs.Ends.{Said, store_text}
-use Rattle.wf_top.proofs.CheckLaws.{check_answered, check_failed}
+use Rattle.wf_top.proofs.CheckLaws.{check_answered, read_failed}
 use Rattle.wf_top.proofs.checks.check_case.Goals as goal
 
 pub returns-in-Ok-read_text : goal.returns-in-Ok-read_text
@@ -19,7 +20,7 @@ returns-in-Err-Refused g c =
 
 pub returns-in-Ok-store_text : goal.returns-in-Ok-store_text
 returns-in-Ok-store_text g c =
-    check_failed c.args.defines.now (g.S.Store.files c.args.store.now) (g.S.Store.files c.read_case.new.store) (g.S.Store.faults c.args.store.now) (g.S.Store.faults c.read_case.new.store) (g.S.Store.failed c.read_case.new.store)
+    inr (inl (read_failed (λ m. case_names m c.args.defines.now) (g.S.Store.files c.args.store.now) (g.S.Store.files c.read_case.new.store) (g.S.Store.faults c.args.store.now) (g.S.Store.faults c.read_case.new.store) (g.S.Store.failed c.read_case.new.store)
     (λ status text. Said status text (g.O.Sink.taken c.args.out.now) (g.O.Sink.taken c.say-in-Ok-store_text.new.out) (g.O.Sink.faults c.args.out.now) (g.O.Sink.faults c.say-in-Ok-store_text.new.out) c.say-in-Ok-store_text.result)
     c.in-Err-Store.name c.deref-in-Ok-store_text.result.now (rw c.in-Err-Store.field-0-is at c.in-Err-Store.ensures.fault) (rw c.in-Err-Store.field-0-is at c.in-Err-Store.ensures.asked) c.in-Err-Store.ensures.only
-    (c.deref-in-Ok-store_text.ensures.value ∙ c.in-Ok-store_text.ensures ∙ ap store_text c.as_slice-in-Err-Store.ensures) c.say-in-Ok-store_text.ensures
+    (c.deref-in-Ok-store_text.ensures.value ∙ c.in-Ok-store_text.ensures ∙ ap store_text c.as_slice-in-Err-Store.ensures) c.say-in-Ok-store_text.ensures))

@@ -1,4 +1,4 @@
-use Rattle.std.proofs.Common.{◌≡◌, ℕ, ◌+◌, ◌-◌, ◌*◌, ◌≤◌, sum_by}
+use Rattle.std.proofs.Common.{◌≡◌, ◌-◌, ◌*◌, ◌≤◌, sum_by}
 use Rattle.std.specs.List.{range_with_len}
 use Rattle.wf_model.specs.Demo.{demo_frames, frame_sum}
 use Rattle.wf_model.specs.StoreRuns.{Ran}

@@ -1,4 +1,4 @@
-use Rattle.std.proofs.Common.{arith, sym, ap, ◌∙◌, ◌≡◌, ℕ, ◌+◌, sum_by}
+use Rattle.std.proofs.Common.{arith, sym, ap, ◌∙◌, ℕ, ◌+◌, sum_by}
 use Rattle.std.specs.List.{range_with_len}
 use Rattle.wf_top.specs.Cells.{size_at}
 use Rattle.wf_top.proofs.RangeLaws.{sum_more}

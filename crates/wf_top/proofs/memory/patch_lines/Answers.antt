@@ -1,8 +1,7 @@
-use Rattle.std.proofs.Common.{arith, sym, ap, subst, ◌∙◌, ◌≡◌, ℕ, ◌+◌, [], ◌∷◌, ◌++◌, List, map, flat_map, string_bytes}
+use Rattle.std.proofs.Common.{arith, sym, ap, ◌∙◌, ◌≡◌, ℕ, [], ◌++◌, List, map, flat_map, string_bytes}
 use Rattle.std.specs.List.{range_with_len}
 use Rattle.std.proofs.lemmas.List.{flat_map_more}
 use Rattle.std.proofs.lemmas.List.FromFn.{map-range_with_len_more}
-use Rattle.wf_model.specs.Lockstep.{MemoryLine}
 use Rattle.wf_model.specs.Answer.{patch_line}
 use Rattle.wf_model.specs.Demo.{demo_memory}
 use Rattle.wf_top.proofs.memory.patch_lines.Goals as goal

@@ -1,4 +1,4 @@
-use Rattle.std.proofs.Common.{arith, refl, ap, subst, ◌∙◌, ◌≡◌, ℕ, List, map, string_bytes}
+use Rattle.std.proofs.Common.{refl, subst, map, string_bytes}
 use Rattle.wf_model.specs.Answer.{Answer}
 use Rattle.wf_model.specs.Demo.{usage, tool_answer}
 use Rattle.wf_model.proofs.StoreRunLaws.{ran_none}

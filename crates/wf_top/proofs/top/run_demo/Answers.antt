@@ -1,4 +1,3 @@
-use Rattle.std.proofs.Common.{◌≡◌}
 use Rattle.wf_model.specs.Demo.{demo_calls}
 use Rattle.wf_model.proofs.StoreRunLaws.{stopped_none, stopped_whole}
 use Rattle.wf_top.proofs.EndLaws.{ran_along}

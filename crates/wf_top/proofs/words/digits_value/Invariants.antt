@@ -1,4 +1,4 @@
-use Rattle.std.proofs.Common.{◌≡◌, ℕ, ◌+◌, ◌≤◌, take}
+use Rattle.std.proofs.Common.{◌≡◌, ◌≤◌, take}
 use Rattle.wf_model.specs.Letters.{digits_value}
 use Rattle.wf_top.proofs.words.digits_value.Given as goal
 

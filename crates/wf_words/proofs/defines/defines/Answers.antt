@@ -2,7 +2,7 @@ use Rattle.std.proofs.Common.{sym, ap, ◌∙◌}
 use Rattle.std.specs.List.{slice_split}
 use Rattle.wf_model.specs.Reading.{each}
 use Rattle.wf_model.proofs.ReadingLemmas.{with_front, with_front-nil, each-step}
-use Rattle.wf_words.specs.Check.{defines_of, is_comma, pair_of, parts}
+use Rattle.wf_words.specs.Commands.{defines_of, is_comma, pair_of, parts}
 use Rattle.wf_words.proofs.defines.defines.Goals as goal
 
 pub loop-rest-init : goal.loop-rest-init

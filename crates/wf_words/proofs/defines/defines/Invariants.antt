@@ -1,7 +1,7 @@
 use Rattle.std.proofs.Common.{◌≡◌}
 use Rattle.wf_model.specs.Reading.{each}
 use Rattle.wf_model.proofs.ReadingLemmas.{with_front}
-use Rattle.wf_words.specs.Check.{defines_of, left_of, pair_of, parts}
+use Rattle.wf_words.specs.Commands.{defines_of, left_of, pair_of, parts}
 use Rattle.wf_words.proofs.defines.defines.Given as goal
 
 abbrev pub invariant-loop-rest : goal.invariant-loop-rest

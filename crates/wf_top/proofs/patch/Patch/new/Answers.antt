@@ -1,4 +1,4 @@
-use Rattle.std.proofs.Common.{arith, refl, sym, ap, ◌∙◌, ◌≡◌, ℕ, ◌+◌, ◌-◌, ◌++◌, List, length, take, drop, ℤ, pos}
+use Rattle.std.proofs.Common.{arith, ap, ◌∙◌, ◌≡◌, ◌+◌, ◌-◌, ◌++◌, List, length, take, drop, ℤ, pos}
 use Rattle.std.proofs.Math.Seq.{take-append_seam}
 use Rattle.wf_top.specs.Cells.{cell}
 use Rattle.wf_top.proofs.ValueLaws.{value_first}

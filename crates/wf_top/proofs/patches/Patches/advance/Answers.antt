@@ -1,7 +1,4 @@
-use Rattle.std.proofs.Common.{rules, arith, refl, sym, ap, subst, ◌∙◌, ◌≡◌, ℕ, ◌+◌, ◌<◌, length, get_or}
 use Rattle.wf_model.specs.Demo.{demo_value}
-use Rattle.wf_top.specs.declared.patches.Patches.{Patches}
-use Rattle.wf_top.specs.Domains.{IsDomain, SameSize, AllHold, HoldSteps, HoldGrid}
 use Rattle.wf_top.proofs.DomainLaws.{size_then, grid_along}
 use Rattle.wf_top.proofs.patches.Patches.advance.Goals as goal
 

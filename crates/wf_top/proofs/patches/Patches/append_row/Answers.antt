@@ -1,9 +1,9 @@
-use Rattle.std.proofs.Common.{arith, refl, sym, ap, subst, ◌∙◌, ◌≡◌, ℕ, ◌+◌, ◌++◌, List, ◌*◌, ◌-◌, ◌<◌, length, get_or, take, drop, ℤ, pos, map}
+use Rattle.std.proofs.Common.{arith, sym, ap, subst, ◌∙◌, ◌≡◌, ◌+◌, ◌++◌, List, ◌*◌, ◌-◌, ◌<◌, length, get_or, take, drop, ℤ, pos, map}
 use Rattle.std.specs.List.{range_with_len}
 use Rattle.wf_top.specs.declared.patch.Patch.{Patch}
 use Rattle.wf_top.specs.Memories.{Inside, IsPatch, block_start}
 use Rattle.wf_top.proofs.PatchLaws.{block_last}
-use Rattle.wf_top.proofs.RecordLaws.{own_part, row_more}
+use Rattle.wf_top.proofs.RecordLaws.{row_more}
 use Rattle.wf_top.proofs.patches.Patches.append_row.Goals as goal
 
 pub loop-patch-preserved : goal.loop-patch-preserved

@@ -1,4 +1,4 @@
-use Rattle.std.proofs.Common.{arith, refl, sym, ap, subst, ◌∙◌, ◌≡◌, ℕ, ◌+◌, ◌++◌, [], List, append-nil, ℤ, pos, map, flat_map}
+use Rattle.std.proofs.Common.{arith, sym, ap, ◌∙◌, ◌≡◌, ℕ, ◌+◌, ◌++◌, List, append-nil, ℤ, pos, map, flat_map}
 use Rattle.std.specs.List.{range_with_len}
 use Rattle.wf_model.specs.Plans.{up_to}
 use Rattle.wf_model.specs.Grids.{listed}

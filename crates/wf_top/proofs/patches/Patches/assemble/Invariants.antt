@@ -1,4 +1,4 @@
-use Rattle.std.proofs.Common.{◌≡◌, ℕ, ◌+◌, flat_map, map, pos}
+use Rattle.std.proofs.Common.{◌≡◌, ℕ, flat_map, map, pos}
 use Rattle.std.specs.List.{range_with_len}
 use Rattle.wf_model.specs.Plans.{up_to}
 use Rattle.wf_model.specs.Demo.{demo_value}

@@ -1,8 +1,5 @@
-use Rattle.std.proofs.Common.{rules, arith, refl, sym, ap, subst, ◌∙◌, ◌≡◌, ◌≢◌, ℕ, ◌+◌, ◌-◌, ◌<◌, ◌≤◌, length, get_or, inl, inr}
-use Rattle.std.proofs.lemmas.Bool.{cases_lt}
-use Rattle.wf_top.specs.Memories.{Holds, Each, IsPatch}
-use Rattle.wf_top.specs.Domains.{IsDomain, SameSize, AllHold}
-use Rattle.wf_top.proofs.DomainLaws.{size_then, up_to_more, at_start, holds_last}
+use Rattle.std.proofs.Common.{arith, ◌-◌}
+use Rattle.wf_top.proofs.DomainLaws.{size_then, up_to_more, at_start}
 use Rattle.wf_top.proofs.patches.Patches.exchange_west.Goals as goal
 
 pub loop-p-preserved : goal.loop-p-preserved

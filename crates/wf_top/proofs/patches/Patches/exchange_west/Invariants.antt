@@ -1,4 +1,4 @@
-use Rattle.std.proofs.Common.{◌≡◌, ℕ}
+use Rattle.std.proofs.Common.{ℕ}
 use Rattle.wf_top.specs.Domains.{IsDomain, SameSize, AllHold}
 use Rattle.wf_top.proofs.DomainLaws.{UpTo}
 use Rattle.wf_top.proofs.patches.Patches.exchange_west.Given as goal

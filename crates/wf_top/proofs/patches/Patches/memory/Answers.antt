@@ -1,8 +1,7 @@
-use Rattle.std.proofs.Common.{arith, sym, ap, subst, ◌∙◌, ◌≡◌, ℕ, ◌+◌, ◌-◌, ◌*◌, List, length, get_or, ℤ, pos, sum_by}
+use Rattle.std.proofs.Common.{sym, ap, subst, ◌∙◌, ◌≡◌, ℕ, ◌-◌, ◌*◌, List, length, ℤ, pos, sum_by}
 use Rattle.std.specs.List.{range_with_len}
 use Rattle.wf_model.specs.Lockstep.{MemoryLine}
-use Rattle.wf_model.specs.Demo.{demo_value, demo_memory, held_columns, column_sum}
-use Rattle.wf_top.specs.declared.patch.Patch.{Patch}
+use Rattle.wf_model.specs.Demo.{demo_value, held_columns, column_sum}
 use Rattle.wf_top.specs.Cells.{size_at, AreSmall}
 use Rattle.wf_top.specs.Memories.{Holds, IsPatch}
 use Rattle.wf_top.proofs.MemoryLaws.{memory_small, cells_are, sum_is}

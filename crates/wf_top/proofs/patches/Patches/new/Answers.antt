@@ -1,4 +1,4 @@
-use Rattle.std.proofs.Common.{rules, arith, refl, sym, ap, subst, ◌∙◌, ◌≡◌, ℕ, ◌+◌, ◌++◌, ◌∷◌, [], List, length}
+use Rattle.std.proofs.Common.{rules, arith, sym, ap, subst, ◌∙◌, ◌≡◌, ℕ, ◌+◌, ◌++◌, ◌∷◌, [], length}
 use Rattle.std.proofs.lemmas.List.{length_push}
 use Rattle.wf_model.specs.Demo.{demo_value}
 use Rattle.wf_top.specs.declared.patch.Patch.{Patch}

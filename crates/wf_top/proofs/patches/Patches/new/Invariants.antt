@@ -1,4 +1,4 @@
-use Rattle.std.proofs.Common.{◌≡◌, ℕ, length}
+use Rattle.std.proofs.Common.{◌≡◌, length}
 use Rattle.wf_model.specs.Demo.{demo_value}
 use Rattle.wf_top.specs.Memories.{Hold, Each, IsPatch}
 use Rattle.wf_top.proofs.patches.Patches.new.Given as goal

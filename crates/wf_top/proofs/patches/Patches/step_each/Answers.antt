@@ -1,7 +1,5 @@
-use Rattle.std.proofs.Common.{rules, arith, refl, sym, ap, subst, ◌∙◌, ◌≡◌, ◌≢◌, ℕ, ◌+◌, ◌<◌, ◌≤◌, length, get_or, inl, inr}
+use Rattle.std.proofs.Common.{arith, ◌+◌}
 use Rattle.wf_model.specs.Demo.{demo_value}
-use Rattle.wf_top.specs.Memories.{Holds, Each, IsPatch}
-use Rattle.wf_top.specs.Domains.{IsDomain, SameSize, AllHold, HoldSteps}
 use Rattle.wf_top.proofs.DomainLaws.{size_then, up_to_more, at_start, steps_along, steps_back}
 use Rattle.wf_top.proofs.patches.Patches.step_each.Goals as goal
 

@@ -1,4 +1,4 @@
-use Rattle.std.proofs.Common.{◌≡◌, ℕ, ◌+◌}
+use Rattle.std.proofs.Common.{ℕ, ◌+◌}
 use Rattle.wf_model.specs.Demo.{demo_value}
 use Rattle.wf_top.specs.Domains.{IsDomain, SameSize, HoldGrid}
 use Rattle.wf_top.proofs.DomainLaws.{UpTo}

@@ -1,9 +1,9 @@
-use Rattle.std.proofs.Common.{rules, arith, refl, sym, ap, subst, ◌∙◌, ◌≡◌, ◌≢◌, ℕ, ◌+◌, ◌<◌, List, length, length-set, set, get_or}
+use Rattle.std.proofs.Common.{sym, subst, ◌∙◌, ◌≡◌, ◌+◌, length, length-set, get_or}
 use Rattle.std.specs.Vec.{with_item}
 use Rattle.std.proofs.lemmas.List.{get_or_default, get_or-set_same}
 use Rattle.wf_model.specs.Demo.{demo_value}
 use Rattle.wf_top.specs.declared.patch.Patch.{Patch}
-use Rattle.wf_top.specs.Memories.{Hold, Holds, Each, IsPatch, KeepsShape, block_start}
+use Rattle.wf_top.specs.Memories.{Hold, Holds, IsPatch, block_start}
 use Rattle.wf_top.proofs.PatchLaws.{each_set, patch_kept, hold_all}
 use Rattle.wf_top.proofs.ValueLaws.{small_held, stepped}
 use Rattle.wf_top.proofs.DomainLaws.{domain_with}

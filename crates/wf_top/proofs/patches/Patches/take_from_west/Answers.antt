@@ -1,11 +1,10 @@
-use Rattle.std.proofs.Common.{rules, arith, refl, sym, ap, subst, ◌∙◌, ◌≡◌, ◌≢◌, ℕ, ◌+◌, ◌-◌, ◌++◌, ◌<◌, ◌≤◌, List, length, take, drop, get_or, ℤ, pos}
+use Rattle.std.proofs.Common.{arith, sym, ap, subst, ◌∙◌, ◌≡◌, ℕ, ◌+◌, ◌-◌, ◌++◌, List, length, take, drop, get_or, pos}
 use Rattle.std.specs.Vec.{with_items}
 use Rattle.std.proofs.lemmas.List.{get_or_default}
 use Rattle.wf_top.specs.declared.patch.Patch.{Patch}
-use Rattle.wf_top.specs.Cells.{cell}
-use Rattle.wf_top.specs.Memories.{Inside, Hold, Holds, Each, IsPatch, KeepsShape, Took, column_of, block_start}
-use Rattle.wf_top.proofs.PatchLaws.{took_west, took_east, block_after}
-use Rattle.wf_top.proofs.DomainLaws.{given_back, domain_with, each_kept, last_column, first_column, end_before}
+use Rattle.wf_top.specs.Memories.{Holds, Each, IsPatch, KeepsShape, Took, column_of, block_start}
+use Rattle.wf_top.proofs.PatchLaws.{took_west, block_after}
+use Rattle.wf_top.proofs.DomainLaws.{given_back, domain_with, each_kept, last_column}
 use Rattle.wf_top.proofs.patches.Patches.take_from_west.Goals as goal
 
 pub returns-clause-domain : goal.returns-clause-domain

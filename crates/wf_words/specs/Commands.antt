@@ -1,4 +1,4 @@
--- The words of the command `check`, as a simple command of `clap` reads them.
+-- The words of a command that takes `--define LIST` alone, as a simple command of `clap` reads them.
 use Rattle.std.specs.Prelude.{ℕ, ◌+◌, ◌==◌, Bool, List, [], ◌∷◌, Option, Some, None, Result, Ok, Err, length, if◌then◌else◌, codes}
 use Rattle.std.specs.Borrow.{Bor}
 use Rattle.std.specs.List.{after_first, before_first, slice_split}
@@ -12,17 +12,17 @@ use Rattle.wf_words.specs.declared.error.WordsError.TheVariants.{Usage, Memory}
 abbrev pub option_rule : Text → Rule
 option_rule name = record (new_rule name) { long = Some name }
 
--- the command with its option
-unfoldable pub check_app : App
-check_app = with_rule (new_app (codes "check")) (option_rule (codes "define"))
+-- the command of this name with its option
+unfoldable pub command_app : Text → App
+command_app name = with_rule (new_app name) (option_rule (codes "define"))
 
 -- why the words, the command's name first, are refused: nothing where they are in the grammar
-unfoldable pub refusals : List Text → Kinds
-refusals words = clap_fault_of check_app words
+unfoldable pub refusals : Text → List Text → Kinds
+refusals name words = clap_fault_of (command_app name) words
 
 -- what stands behind `--define`
-unfoldable pub define_text : List Text → Option Text
-define_text words = first_of (codes "define") (matches_of check_app words)
+unfoldable pub define_text : Text → List Text → Option Text
+define_text name words = first_of (codes "define") (matches_of (command_app name) words)
 
 -- ---- names and values
 
@@ -46,9 +46,15 @@ abbrev pub unless_refused : Kinds → Result Defines (Unit {0}) → Result Defin
 unless_refused [] defines = defines
 unless_refused (k ∷ ks) defines = Err tt
 
--- the names that are defined, or the fault that the words are none of this command
-unfoldable pub check_words : List Text → Result Defines (Unit {0})
-check_words words = unless_refused (refusals words) (asked_defines (define_text words))
+-- the names that are defined, or the fault that the words are none of the command of this name
+unfoldable pub words_of_command : Text → List Text → Result Defines (Unit {0})
+words_of_command name words = unless_refused (refusals name words) (asked_defines (define_text name words))
+
+abbrev pub check_words : List Text → Result Defines (Unit {0})
+check_words = words_of_command (codes "check")
+
+abbrev pub plain_words : List Text → Result Defines (Unit {0})
+plain_words = words_of_command (codes "plain")
 
 -- ---- as the code tells it
 

@@ -1,0 +1,71 @@
+-- What `plain` answers, and how it ends.
+use Rattle.std.specs.Prelude.{◌≡◌, ◌⊎◌, ℕ, List, [], ◌++◌, pos, Option, Some, Result, Ok, Err}
+use Rattle.wf_model.specs.declared.plan.Plan.{Plan}
+use Rattle.wf_model.specs.declared.initial.Initial.{Initial}
+use Rattle.wf_model.specs.Reading.{◌>>=◌}
+use Rattle.wf_model.specs.Letters.{Text}
+use Rattle.wf_model.specs.KeptLines.{Defines}
+use Rattle.wf_model.specs.Files.{Files}
+use Rattle.wf_model.specs.Refusals.{Refusal}
+use Rattle.wf_model.specs.FilesRead.{Planned, plan_read, inputs_read}
+use Rattle.wf_model.specs.Outcome.{RunData}
+use Rattle.wf_model.specs.Patches.{whole_domain}
+use Rattle.wf_model.specs.Answer.{Answer, Outside, after, command_answer, plain, run_answer, run_of, unsaid}
+use Rattle.wf_model.specs.Demo.{usage}
+use Rattle.wf_stream.specs.Inputs.{input_names}
+use Rattle.wf_setup.specs.Asked.{case_names}
+use Rattle.wf_top.specs.Ends.{CallsEnded, ReadFailed}
+
+-- ---- the answer
+
+-- no functions are stored. How the words are read is not looked at
+abbrev pub no_functions : Outside
+no_functions = record { command = λ words. Err (record { status = usage.status; line = usage.text }); hooks = []; answers = λ id xs. pos 0 }
+
+-- what `plain` answers with these files
+abbrev pub plain_answer : Files → Defines → Answer
+plain_answer files defines = command_answer no_functions files (plain defines)
+
+-- the run of a plan and of what it begins with
+abbrev pub run_from : Plan → Initial → RunData
+run_from plan initial = run_of no_functions plan initial
+
+-- the run that the files ask for, or the first refusal
+unfoldable pub run_read : Files → Defines → Result RunData Refusal
+run_read files defines = plan_read [] files defines >>= λ read. inputs_read files read.1 >>= λ initial. Ok (run_from read.1 initial)
+
+-- the answer to a run on whole domains
+abbrev pub whole_answer : RunData → Answer
+whole_answer r = run_answer r whole_domain unsaid
+
+-- the answer to what was read
+abbrev pub answer_to : Result RunData Refusal → Answer
+answer_to read = after read whole_answer
+
+-- ---- the files that are asked for
+
+-- the input files, unless something was refused
+abbrev pub inputs_asked : Result Planned Refusal → List Text
+inputs_asked (Ok read) = input_names read.1
+inputs_asked (Err x) = []
+
+unfoldable pub plain_names : Files → Defines → List Text
+plain_names files defines = case_names files defines ++ inputs_asked (plan_read [] files defines)
+
+-- ---- how it ends. `Says status text` is `Said` of the sink and the status that came out
+
+-- with files that the store tells it is their answer, and else that of some reading
+pub record IsPlainAnswer (defines : Defines) (old : Option Files) (answer : Answer) : Type 0 where
+  pub read : Result RunData Refusal
+  pub of_read : answer ≡ answer_to read
+  pub told : (m : Files) → old ≡ Some m → answer ≡ plain_answer m defines
+
+-- all was read, or refused, or memory was wanting: the answer was given, or a first part of its calls was made
+pub record PlainAnswered (defines : Defines) (old new : Option Files) (before after : ℕ) (failed : List ℕ) (Says : ℕ → List ℕ → Type 0) : Type 0 where
+  pub answer : Answer
+  pub is : IsPlainAnswer defines old answer
+  pub ended : CallsEnded answer old new before after failed Says
+
+abbrev pub PlainEnded : Defines → Option Files → Option Files → ℕ → ℕ → List ℕ → (ℕ → List ℕ → Type 0) → Type 0
+PlainEnded defines old new before after failed Says =
+    PlainAnswered defines old new before after failed Says ⊎ ReadFailed (λ m. plain_names m defines) old new before after failed Says
