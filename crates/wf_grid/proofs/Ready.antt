@@ -88,6 +88,7 @@ module _ (plan : Plan) (initial : Initial) (sound : IsSoundPlan plan) (ranged : 
   table = record {
     items = λ n h. takeable (item_of plan n) (sound.items n no_item h) (ranged.items n no_item h) (calls n no_item h);
     few = λ f h. omega (arith, (ranged.fields f no_field h).nz.1);
+    fields = ranged.limits.levels;
   }
 
   are : AreLists plan 1 (first_lists initial)

@@ -2,6 +2,7 @@ pub mod Levels
 pub mod Following
 pub mod Reading
 pub mod Filled
+pub mod Sized
 pub mod Stepped
 pub mod Takeable
 pub mod Held

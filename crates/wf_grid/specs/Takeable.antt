@@ -26,6 +26,7 @@ IsTakeable plan d (item.Phase ph) = IsRunnable plan d ph
 pub record IsTable (plan : Plan) (d : ℕ) : Type 0 where
   pub items : (n : ℕ) → n < length plan.items → IsTakeable plan d (item_of plan n)
   pub few : (f : ℕ) → IsLevel plan f → nz plan f < 2 ^ 31
+  pub fields : length plan.fields ≤ 64
 
 -- room for each level
 abbrev pub HasRoom : Plan → ℕ → List ℤ → Type 0

@@ -7,6 +7,7 @@ mod extents;
 mod file_shape;
 mod item;
 mod phase;
+mod sizes;
 mod stepping;
 mod surroundings;
 mod whole;

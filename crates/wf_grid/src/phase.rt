@@ -10,7 +10,8 @@ ghost use Rattle.wf_grid.specs.Filled.{AreExtents, spot_of, phase_number, IsFill
 ghost use Rattle.wf_grid.specs.Reading.{IsRunnable};
 
 use crate::extents::{Extents, Here, domain, extents_of, first, following, is_inside, level};
-use crate::surroundings::{Surroundings, number_at};
+use crate::sizes::all_sizes;
+use crate::surroundings::{Surroundings, number_here};
 use wf_eval::eval;
 use wf_model::{List, Phase, Plan};
 
@@ -31,10 +32,9 @@ fn is_in_region(at: &Surroundings, phase: &Phase, extents: Extents) -> bool
     requires { AreExtents at.now.plan.now at.now.number phase.now.writes extents }
     ensures { result ≡ in_region at.now.plan.now at.now.number phase.now at.now.here.k at.now.here.j at.now.here.i }
 {
-    let domain = domain(at.plan, at.number);
     is_phase_level(phase, extents.levels, at.here.k)
-        && is_inside(domain.periodic_y, phase.my, extents.rows, at.here.j)
-        && is_inside(domain.periodic_x, phase.mx, extents.columns, at.here.i)
+        && is_inside(at.sizes.periodic_y, phase.my, extents.rows, at.here.j)
+        && is_inside(at.sizes.periodic_x, phase.mx, extents.columns, at.here.i)
 }
 
 /// The number of a point after a phase; none is an overflow.
@@ -47,7 +47,7 @@ fn number_after(at: &Surroundings, phase: &Phase, extents: Extents) -> Option<i3
     if is_in_region(at, phase, extents) {
         eval(&phase.expr, at).ok()
     } else {
-        Some(number_at(at.plan, at.number, at.levels, phase.writes, at.here))
+        Some(number_here(at, phase.writes, at.here))
     }
 }
 
@@ -62,6 +62,7 @@ fn fill(
 ) -> Option<Here>
     requires lists { AreLists plan.now number levels.now }
     requires runnable { IsRunnable plan.now number phase.now }
+    requires fields { length plan.now.fields ≤ 64 }
     requires few { nz plan.now phase.now.writes < 2 ^ 31 }
     requires size { length scratch.old ≡ nz plan.now phase.now.writes * (ny plan.now number phase.now.writes * nx plan.now number phase.now.writes) }
     ensures length { length scratch.new ≡ nz plan.now phase.now.writes * (ny plan.now number phase.now.writes * nx plan.now number phase.now.writes) }
@@ -69,11 +70,13 @@ fn fill(
     ensures stopped { IfSome result (λ here. (m : Answers) → StopsAt plan.now m number levels.now step phase.now (spot_of phase.now.writes here)) }
 {
     let extents = extents_of(domain(plan, number), level(plan, phase.writes));
+    let sizes = all_sizes(plan, number);
     let mut here = first();
     for cell in scratch.iter_mut() {
         let at = Surroundings {
             plan,
             number,
+            sizes: &sizes,
             levels,
             here,
             step,
@@ -109,6 +112,7 @@ pub fn run_phase(
 ) -> Option<Here>
     requires lists { AreLists plan.now number levels.old }
     requires runnable { IsRunnable plan.now number phase.now }
+    requires fields { length plan.now.fields ≤ 64 }
     requires few { nz plan.now phase.now.writes < 2 ^ 31 }
     requires size { length (slice_index_or levels.old phase.now.writes no_list) ≤ length scratch.old }
     ensures point { (m : Answers) → option_map (spot_of phase.now.writes) result ≡ overflow_in plan.now (phase_change plan.now m (grids_of plan.now number levels.old) number step phase.now) }

@@ -1,25 +1,31 @@
 //! What the expression of a phase sees at a point of whole domains.
 
-ghost use Rattle.std.specs.Prelude.{◌≡◌, ◌^◌, ◌<◌, ◌≤◌, IsTrue, pos, ◌+ℤ◌, ◌≤ℤ◌, unsigned_abs, if◌then◌else◌};
+ghost use Rattle.std.specs.Prelude.{◌≡◌, ◌*◌, ◌^◌, ◌<◌, ◌≤◌, IsTrue, length, pos, ◌+ℤ◌, ◌≤ℤ◌, unsigned_abs, if◌then◌else◌, slice_index_or};
 ghost use Rattle.wf_model.specs.Plans.{nx, ny, nz, level_at, point_x, point_y};
 ghost use Rattle.wf_model.specs.Sound.{IsLevel};
 ghost use Rattle.wf_model.specs.Changes.{sight_at};
+ghost use Rattle.wf_model.specs.Grids.{grid_from};
+ghost use Rattle.wf_model.specs.Outcome.{no_list};
 ghost use Rattle.wf_grid.specs.Levels.{AreLists, IsPlaceIn, grids_of};
 ghost use Rattle.wf_grid.specs.Reading.{IsReadable};
+ghost use Rattle.wf_grid.specs.Sized.{IsSize, AreSizes};
 
-use crate::extents::{Here, domain, extents_of, level, place, wrapped_place};
+use crate::extents::{Extents, Here, domain, extents_of, level, place, wrapped_place};
+use crate::sizes::{LevelSize, Sizes};
 use wf_eval::Reader;
-use wf_model::{Field, List, Plan};
+use wf_model::{List, Plan};
 
-/// A point of a domain in a step, and the numbers of all levels of the domain.
+/// A point of a domain in a step, and the sizes and the numbers of all levels of the domain.
 #[derive(Clone, Copy, Drop)]
 pub struct Surroundings<'a> {
     pub plan: &'a Plan,
     pub number: u32,
+    pub sizes: &'a Sizes,
     pub levels: &'a [List<i32>],
     pub here: Here,
     pub step: u64,
     pub ghost lists: { AreLists plan.now number levels.now },
+    pub ghost sizes_are: { AreSizes plan.now number sizes.now },
 }
 
 /// The level so many levels further on.
@@ -32,13 +38,20 @@ fn raised(k: u32, by: i32) -> u32
 }
 
 /// The level that a read meets: a field without a z letter has one level.
-fn level_met(level: &Field, k: u32, dk: i32) -> u32
-    requires above { IsTrue level.now.z → pos 1 ≤ℤ (pos k +ℤ dk) }
-    requires high { IsTrue level.now.z → unsigned_abs (pos k +ℤ dk) ≤ level.now.nz }
-    ensures { result ≡ (if level.now.z then unsigned_abs (pos k +ℤ dk) else 1) }
+fn level_met(size: LevelSize, k: u32, dk: i32) -> u32
+    requires above { IsTrue size.z → pos 1 ≤ℤ (pos k +ℤ dk) }
+    requires high { IsTrue size.z → unsigned_abs (pos k +ℤ dk) ≤ size.extents.levels }
+    ensures { result ≡ (if size.z then unsigned_abs (pos k +ℤ dk) else 1) }
 {
-    let _levels = level.nz;
-    if level.z { raised(k, dk) } else { 1 }
+    if size.z { raised(k, dk) } else { 1 }
+}
+
+/// The size of a field level.
+fn size_at(at: &Surroundings, field: u32) -> LevelSize
+    requires { IsLevel at.now.plan.now field }
+    ensures { IsSize at.now.plan.now at.now.number field result }
+{
+    at.sizes.levels[field as usize]
 }
 
 /// The point that a read meets: in a periodic direction places wrap.
@@ -49,13 +62,31 @@ fn met(at: &Surroundings, field: u32, di: i32, dk: i32, dj: i32) -> Here
     ensures i { result.i ≡ point_x at.now.plan.now at.now.number field (pos at.now.here.i +ℤ di) }
     ensures inside { IsPlaceIn (nz at.now.plan.now field) (ny at.now.plan.now at.now.number field) (nx at.now.plan.now at.now.number field) result.k result.j result.i }
 {
-    let domain = domain(at.plan, at.number);
-    let level = level(at.plan, field);
-    let extents = extents_of(domain, level);
-    let i = wrapped_place(domain.periodic_x, extents.columns, at.here.i, di);
-    let j = wrapped_place(domain.periodic_y, extents.rows, at.here.j, dj);
-    let k = level_met(level, at.here.k, dk);
+    let size = size_at(at, field);
+    let i = wrapped_place(at.sizes.periodic_x, size.extents.columns, at.here.i, di);
+    let j = wrapped_place(at.sizes.periodic_y, size.extents.rows, at.here.j, dj);
+    let k = level_met(size, at.here.k, dk);
     Here { k, j, i }
+}
+
+/// The number of a point of a level that has these extents.
+fn number_in(levels: &[List<i32>], field: u32, extents: Extents, here: Here) -> i32
+    requires level { field < length levels.now }
+    requires inside { IsPlaceIn extents.levels extents.rows extents.columns here.k here.j here.i }
+    requires size { length (slice_index_or levels.now field no_list) ≡ extents.levels * (extents.rows * extents.columns) }
+    ensures { result ≡ grid_from extents.rows extents.columns (slice_index_or levels.now field no_list) here.k here.j here.i }
+{
+    let list = levels[field as usize].as_slice();
+    list[place(extents, here, list.len())]
+}
+
+/// The number of a point of the domain.
+pub fn number_here(at: &Surroundings, field: u32, here: Here) -> i32
+    requires level { IsLevel at.now.plan.now field }
+    requires inside { IsPlaceIn (nz at.now.plan.now field) (ny at.now.plan.now at.now.number field) (nx at.now.plan.now at.now.number field) here.k here.j here.i }
+    ensures { result ≡ grids_of at.now.plan.now at.now.number at.now.levels.now at.now.number field here.k here.j here.i }
+{
+    number_in(at.levels, field, size_at(at, field).extents, here)
 }
 
 /// The number of a point.
@@ -66,8 +97,7 @@ pub fn number_at(plan: &Plan, number: u32, levels: &[List<i32>], field: u32, her
     ensures { result ≡ grids_of plan.now number levels.now number field here.k here.j here.i }
 {
     let extents = extents_of(domain(plan, number), level(plan, field));
-    let list = levels[field as usize].as_slice();
-    list[place(extents, here, list.len())]
+    number_in(levels, field, extents, here)
 }
 
 impl Reader for Surroundings<'_> {
@@ -92,7 +122,6 @@ impl Reader for Surroundings<'_> {
     }
 
     fn read(&self, field: u32, di: i32, dk: i32, dj: i32) -> i32 {
-        let here = met(self, field, di, dk, dj);
-        number_at(self.plan, self.number, self.levels, field, here)
+        number_here(self, field, met(self, field, di, dk, dj))
     }
 }
