@@ -71,11 +71,22 @@ fn push_plane(at: &Numbers, k: u32, values: &mut Vec<i32>) -> Result<(), AllocEr
     Ok(())
 }
 
+/// How many numbers a level has in file shape: the room that is reserved for them.
+fn file_room(at: &Numbers) -> usize {
+    let domain = domain(at.plan, at.number);
+    let level = level(at.plan, at.field);
+    let columns = file_points(domain.ide, level.stag_x) as usize;
+    let rows = file_points(domain.jde, level.stag_y) as usize;
+    (level.nz as usize)
+        .saturating_mul(rows)
+        .saturating_mul(columns)
+}
+
 /// The numbers of a level in file shape, in order k, j, i.
 fn file_numbers(alloc: Global, at: &Numbers) -> Result<Vec<i32>, AllocError>
     ensures { IfOk result (λ v. v.items ≡ file_list at.now.plan.now at.now.number at.now.field (grids_of at.now.plan.now at.now.number at.now.levels.now)) }
 {
-    let mut values = Vec::new(alloc);
+    let mut values = Vec::with_capacity(alloc, file_room(at))?;
     for k in 0..level(at.plan, at.field).nz {
         push_plane(at, k + 1, &mut values)?;
     }
