@@ -1,11 +1,11 @@
 //! Levels in file shape, and the slabs of a frame.
 
-ghost use Rattle.std.specs.Prelude.{◌≡◌, ◌+◌, ◌-◌, ◌≤◌, ◌++◌, IfOk, OnOk, Some, map, length};
+ghost use Rattle.std.specs.Prelude.{◌≡◌, ◌+◌, ◌-◌, ◌*◌, ◌≤◌, ◌++◌, IfOk, OnOk, Some, map, length};
 ghost use Rattle.std.specs.List.{slice_get};
 ghost use Rattle.wf_model.specs.Frames.{frames_of};
 ghost use Rattle.wf_model.specs.Plans.{nx, ny, nz};
 ghost use Rattle.wf_model.specs.Sound.{IsLevel};
-ghost use Rattle.wf_model.specs.Streams.{one_if, file_list};
+ghost use Rattle.wf_model.specs.Streams.{one_if, file_list, file_x, file_y};
 ghost use Rattle.wf_grid.specs.FileShape.{file_row, file_plane};
 ghost use Rattle.wf_grid.specs.Levels.{AreLists, grids_of};
 ghost use Rattle.wf_grid.specs.Reached.{IsSteppable, IsReached};
@@ -72,7 +72,9 @@ fn push_plane(at: &Numbers, k: u32, values: &mut Vec<i32>) -> Result<(), AllocEr
 }
 
 /// How many numbers a level has in file shape: the room that is reserved for them.
-fn file_room(at: &Numbers) -> usize {
+fn file_room(at: &Numbers) -> usize
+    ensures { result ≤ nz at.now.plan.now at.now.field * file_y at.now.plan.now at.now.number at.now.field * file_x at.now.plan.now at.now.number at.now.field }
+{
     let domain = domain(at.plan, at.number);
     let level = level(at.plan, at.field);
     let columns = file_points(domain.ide, level.stag_x) as usize;
