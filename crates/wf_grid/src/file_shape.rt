@@ -1,6 +1,6 @@
 //! Levels in file shape, and the slabs of a frame.
 
-ghost use Rattle.std.specs.Prelude.{◌≡◌, ◌+◌, ◌-◌, ◌*◌, ◌≤◌, ◌++◌, IfOk, OnOk, Some, map, length};
+ghost use Rattle.std.specs.Prelude.{◌≡◌, ◌+◌, ◌-◌, ◌*◌, ◌^◌, ◌<◌, ◌≤◌, ◌++◌, IfOk, OnOk, Some, map, length};
 ghost use Rattle.std.specs.List.{slice_get};
 ghost use Rattle.wf_model.specs.Frames.{frames_of};
 ghost use Rattle.wf_model.specs.Plans.{nx, ny, nz};
@@ -73,7 +73,8 @@ fn push_plane(at: &Numbers, k: u32, values: &mut Vec<i32>) -> Result<(), AllocEr
 
 /// How many numbers a level has in file shape: the room that is reserved for them.
 fn file_room(at: &Numbers) -> usize
-    ensures { result ≤ nz at.now.plan.now at.now.field * file_y at.now.plan.now at.now.number at.now.field * file_x at.now.plan.now at.now.number at.now.field }
+    ensures most { result ≤ nz at.now.plan.now at.now.field * file_y at.now.plan.now at.now.number at.now.field * file_x at.now.plan.now at.now.number at.now.field }
+    ensures all { nz at.now.plan.now at.now.field * file_y at.now.plan.now at.now.number at.now.field * file_x at.now.plan.now at.now.number at.now.field < 2 ^ 64 → result ≡ nz at.now.plan.now at.now.field * file_y at.now.plan.now at.now.number at.now.field * file_x at.now.plan.now at.now.number at.now.field }
 {
     let domain = domain(at.plan, at.number);
     let level = level(at.plan, at.field);
