@@ -1,11 +1,11 @@
 //! Levels in file shape, and the slabs of a frame.
 
-ghost use Rattle.std.specs.Prelude.{◌≡◌, ◌+◌, ◌-◌, ◌≤◌, ◌++◌, IfOk, OnOk, Some, map, length};
+ghost use Rattle.std.specs.Prelude.{◌≡◌, ◌+◌, ◌-◌, ◌*◌, ◌^◌, ◌<◌, ◌≤◌, ◌++◌, IfOk, OnOk, Some, map, length};
 ghost use Rattle.std.specs.List.{slice_get};
 ghost use Rattle.wf_model.specs.Frames.{frames_of};
 ghost use Rattle.wf_model.specs.Plans.{nx, ny, nz};
 ghost use Rattle.wf_model.specs.Sound.{IsLevel};
-ghost use Rattle.wf_model.specs.Streams.{one_if, file_list};
+ghost use Rattle.wf_model.specs.Streams.{one_if, file_list, file_x, file_y};
 ghost use Rattle.wf_grid.specs.FileShape.{file_row, file_plane};
 ghost use Rattle.wf_grid.specs.Levels.{AreLists, grids_of};
 ghost use Rattle.wf_grid.specs.Reached.{IsSteppable, IsReached};
@@ -71,11 +71,25 @@ fn push_plane(at: &Numbers, k: u32, values: &mut Vec<i32>) -> Result<(), AllocEr
     Ok(())
 }
 
+/// How many numbers a level has in file shape: the room that is reserved for them.
+fn file_room(at: &Numbers) -> usize
+    ensures most { result ≤ nz at.now.plan.now at.now.field * file_y at.now.plan.now at.now.number at.now.field * file_x at.now.plan.now at.now.number at.now.field }
+    ensures all { nz at.now.plan.now at.now.field * file_y at.now.plan.now at.now.number at.now.field * file_x at.now.plan.now at.now.number at.now.field < 2 ^ 64 → result ≡ nz at.now.plan.now at.now.field * file_y at.now.plan.now at.now.number at.now.field * file_x at.now.plan.now at.now.number at.now.field }
+{
+    let domain = domain(at.plan, at.number);
+    let level = level(at.plan, at.field);
+    let columns = file_points(domain.ide, level.stag_x) as usize;
+    let rows = file_points(domain.jde, level.stag_y) as usize;
+    (level.nz as usize)
+        .saturating_mul(rows)
+        .saturating_mul(columns)
+}
+
 /// The numbers of a level in file shape, in order k, j, i.
 fn file_numbers(alloc: Global, at: &Numbers) -> Result<Vec<i32>, AllocError>
     ensures { IfOk result (λ v. v.items ≡ file_list at.now.plan.now at.now.number at.now.field (grids_of at.now.plan.now at.now.number at.now.levels.now)) }
 {
-    let mut values = Vec::new(alloc);
+    let mut values = Vec::with_capacity(alloc, file_room(at))?;
     for k in 0..level(at.plan, at.field).nz {
         push_plane(at, k + 1, &mut values)?;
     }
