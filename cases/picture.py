@@ -44,7 +44,7 @@ def main():
     for place in reversed(range(len(frames[0]))):
         row = []
         for frame in frames:
-            row += gap + [colour(number, 300) for number in frame[place]]
+            row += gap + [colour(number, 300_000) for number in frame[place]]
         rows.append(row[len(gap) :])
     with open(out, "wb") as file:
         file.write(png(rows))

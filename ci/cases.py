@@ -74,7 +74,7 @@ def waves(folder):
             yield {"H": new}
         next_ = [
             [
-                2 * new[j][i] - old[j][i] + (new[j][i - 1] + new[j][(i + 1) % 160] + new[j - 1][i] + new[(j + 1) % 100][i] - 4 * new[j][i]) // 4
+                2 * new[j][i] - old[j][i] + (new[j][i - 1] + new[j][(i + 1) % 160] + new[j - 1][i] + new[(j + 1) % 100][i] - 4 * new[j][i] + 2) // 4
                 for i in range(160)
             ]
             for j in range(100)
