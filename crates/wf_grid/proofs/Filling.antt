@@ -1,18 +1,14 @@
 -- One turn of the loop that computes a level: the points so far, and the next one.
-use Rattle.std.proofs.Common.{◌≡◌, ◌≢◌, ℕ, ◌+◌, ◌-◌, ◌*◌, ◌<◌, ◌≤◌, List, length, get_or, set, refl, sym, ap, subst, ◌∙◌, arith, Some, None, below_more, get_or-set_other, get_or-set_same}
+use Rattle.std.proofs.Common.{◌≡◌, ◌≢◌, ℕ, ◌+◌, ◌*◌, ◌<◌, ◌≤◌, List, length, get_or, set, refl, sym, ap, subst, ◌∙◌, arith, Some, None, below_more, get_or-set_other, get_or-set_same}
 use Rattle.std.specs.Prelude.{ℤ, pos, is_none}
 use Rattle.wf_model.specs.declared.plan.Plan.{Plan}
 use Rattle.wf_model.specs.declared.plan.Phase.{Phase}
-use Rattle.wf_model.specs.declared.plan.Domain.{Domain}
-use Rattle.wf_model.specs.declared.plan.Field.{Field}
-use Rattle.wf_model.specs.Plans.{domain_of, field_of, extra, nx, ny, nz}
+use Rattle.wf_model.specs.Plans.{nx, ny, nz}
 use Rattle.wf_model.specs.Value.{Answers}
 use Rattle.wf_model.specs.Changes.{Spot}
 use Rattle.wf_grid.specs.declared.extents.Extents.{Extents}
-use Rattle.wf_grid.specs.declared.extents.Here.{Here}
-use Rattle.wf_grid.specs.Following.{IsNext}
 use Rattle.wf_grid.specs.Levels.{place_in, IsPlaceIn, level_spots}
-use Rattle.wf_grid.specs.Filled.{spot_at, phase_number, IsFilled, StopsAt}
+use Rattle.wf_grid.specs.Filled.{AreExtents, spot_at, phase_number, IsFilled, StopsAt}
 use Rattle.wf_grid.proofs.Cells.{cells, length-cells, get_or-cells, level_within}
 
 -- as many points as numbers in the list
@@ -33,24 +29,10 @@ pub inside_at : (plan : Plan) (d f k j i q : ℕ) → place_in (ny plan d f) (nx
 inside_at plan d f k j i q e h low y x =
     record { in_z = (low, level_within (nz plan f) (ny plan d f) (nx plan d f) k j i low (subst (λ (m : ℕ). m < nz plan f * (ny plan d f * nx plan d f)) (sym e) h)); in_y = y; in_x = x }
 
--- the extents that the code computes
-module _ (plan : Plan) (d f : ℕ) (x : Domain) (y : Field) (e : Extents) where
-  -- a point of the level lies in them
-  pub in_extents : (k j i : ℕ) → x ≡ domain_of plan d → y ≡ field_of plan f → e.columns ≡ x.ide - 1 + extra y.stag_x x.periodic_x → e.rows ≡ x.jde - 1 + extra y.stag_y x.periodic_y → e.levels ≡ y.nz →
-      IsPlaceIn (nz plan f) (ny plan d f) (nx plan d f) k j i → IsPlaceIn e.levels e.rows e.columns k j i
-  in_extents k j i ex ey ec er el h =
-      let columns : e.columns ≡ nx plan d f = ec ∙ (λ n. (ex n).ide - 1 + extra (ey n).stag_x (ex n).periodic_x) in
-      let rows : e.rows ≡ ny plan d f = er ∙ (λ n. (ex n).jde - 1 + extra (ey n).stag_y (ex n).periodic_y) in
-      let levels : e.levels ≡ nz plan f = el ∙ ap (λ (z : Field). z.nz) ey in
-      record { in_z = (h.in_z.0, omega (arith, levels, h.in_z.1)); in_y = (h.in_y.0, omega (arith, rows, h.in_y.1)); in_x = (h.in_x.0, omega (arith, columns, h.in_x.1)) }
-
-  -- and so does the point that follows
-  pub next_in_extents : (here next : Here) → x ≡ domain_of plan d → y ≡ field_of plan f → e.columns ≡ x.ide - 1 + extra y.stag_x x.periodic_x → e.rows ≡ x.jde - 1 + extra y.stag_y x.periodic_y →
-      IsNext e.rows e.columns here next → IsNext (ny plan d f) (nx plan d f) here next
-  next_in_extents here next ex ey ec er h =
-      let columns : e.columns ≡ nx plan d f = ec ∙ (λ n. (ex n).ide - 1 + extra (ey n).stag_x (ex n).periodic_x) in
-      let rows : e.rows ≡ ny plan d f = er ∙ (λ n. (ex n).jde - 1 + extra (ey n).stag_y (ex n).periodic_y) in
-      subst (λ (a : ℕ). IsNext a (nx plan d f) here next) rows (subst (λ (a : ℕ). IsNext e.rows a here next) columns h)
+-- a point of the level lies in the extents that the code computes
+pub in_extents : (plan : Plan) (d f k j i : ℕ) (e : Extents) → AreExtents plan d f e → IsPlaceIn (nz plan f) (ny plan d f) (nx plan d f) k j i → IsPlaceIn e.levels e.rows e.columns k j i
+in_extents plan d f k j i e x h =
+    record { in_z = (h.in_z.0, omega (arith, x.levels, h.in_z.1)); in_y = (h.in_y.0, omega (arith, x.rows, h.in_y.1)); in_x = (h.in_x.0, omega (arith, x.columns, h.in_x.1)) }
 
 module _ (plan : Plan) (m : Answers) (d : ℕ) (lists : List (List ℤ)) (step : ℕ) (ph : Phase) (n : ℕ) (numbers : List ℤ) (filled : IsFilled plan m d lists step ph n numbers) where
   -- one number more

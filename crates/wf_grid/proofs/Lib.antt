@@ -2,6 +2,9 @@ pub mod Wrapping
 pub mod Meeting
 pub mod Cells
 pub mod Filling
+pub mod SetRows
+pub mod RowPlaces
+pub mod RowFilling
 pub mod Finding
 pub mod Lists
 pub mod PhaseResult

@@ -1,5 +1,4 @@
 pub mod Levels
-pub mod Following
 pub mod Reading
 pub mod Filled
 pub mod Sized
@@ -10,3 +9,4 @@ pub mod Reached
 pub mod FileShape
 pub mod FrameEnds
 pub mod RunEnds
+pub mod Spanned

@@ -1,5 +1,5 @@
 -- The sizes of all field levels of a domain.
-use Rattle.std.specs.Prelude.{◌≡◌, ℕ, ◌≤◌, length, false, slice_index_or}
+use Rattle.std.specs.Prelude.{◌≡◌, ℕ, ◌≤◌, ◌||◌, length, false, slice_index_or}
 use Rattle.wf_model.specs.declared.plan.Plan.{Plan}
 use Rattle.wf_model.specs.Plans.{domain_of, field_of}
 use Rattle.wf_model.specs.Sound.{IsLevel}
@@ -20,5 +20,6 @@ no_size = record { extents = record { columns = 0; rows = 0; levels = 0 }; z = f
 pub record AreSizes (plan : Plan) (d : ℕ) (s : Sizes) : Type 0 where
   pub periodic_x : s.periodic_x ≡ (domain_of plan d).periodic_x
   pub periodic_y : s.periodic_y ≡ (domain_of plan d).periodic_y
+  pub wraps : s.wraps ≡ ((domain_of plan d).periodic_x || (domain_of plan d).periodic_y)
   pub room : length plan.fields ≤ 64
   pub each : (f : ℕ) → IsLevel plan f → IsSize plan d f (slice_index_or s.levels f no_size)

@@ -1,11 +1,10 @@
 //! The extents of field levels, and the places of points in their lists.
 
 ghost use Rattle.std.specs.Prelude.{◌≡◌, ℕ, ◌+◌, ◌-◌, ◌*◌, ◌^◌, ◌<◌, ◌≤◌, ◌||◌, IsTrue, pos, ◌+ℤ◌};
-ghost use Rattle.wf_model.specs.Plans.{domain_of, field_of, extra, is_inside, wrapped};
+ghost use Rattle.wf_model.specs.Plans.{domain_of, field_of, extra, wrapped};
 ghost use Rattle.wf_model.specs.Sound.{IsDomain, IsLevel};
 ghost use Rattle.wf_model.specs.Patches.{in_span};
 ghost use Rattle.wf_grid.specs.Levels.{IsPlaceIn, place_in};
-ghost use Rattle.wf_grid.specs.Following.{IsNext};
 
 use wf_model::{Domain, Field, Plan};
 
@@ -73,39 +72,6 @@ pub fn place(extents: Extents, here: Here, count: usize) -> usize
     row * extents.columns as usize + (here.i as usize - 1)
 }
 
-/// The first point of a level.
-pub fn first() -> Here
-    ensures { result ≡ record { k = 1; j = 1; i = 1 } }
-{
-    Here { k: 1, j: 1, i: 1 }
-}
-
-/// The point that follows a point in the order of a list.
-pub fn following(extents: Extents, here: Here) -> Here
-    requires inside { IsPlaceIn extents.levels extents.rows extents.columns here.k here.j here.i }
-    requires room { extents.levels < 2 ^ 31 }
-    ensures { IsNext extents.rows extents.columns here result }
-{
-    if here.i < extents.columns {
-        Here {
-            i: here.i + 1,
-            ..here
-        }
-    } else if here.j < extents.rows {
-        Here {
-            j: here.j + 1,
-            i: 1,
-            ..here
-        }
-    } else {
-        Here {
-            k: here.k + 1,
-            j: 1,
-            i: 1,
-        }
-    }
-}
-
 /// The number of the point at a place: in a periodic direction places wrap.
 pub fn wrapped_place(periodic: bool, count: u32, from: u32, by: i32) -> u32
     requires some { 1 ≤ count }
@@ -119,16 +85,5 @@ pub fn wrapped_place(periodic: bool, count: u32, from: u32, by: i32) -> u32
         (place - 1).rem_euclid(i64::from(count)) as u32 + 1
     } else {
         place as u32
-    }
-}
-
-/// Whether a point is at least the margin from both ends, which is 0 in a periodic direction.
-pub fn is_inside(periodic: bool, margin: u32, count: u32, x: u32) -> bool
-    ensures { result ≡ is_inside periodic margin count x }
-{
-    if periodic {
-        1 <= x && x <= count
-    } else {
-        margin < x && x <= count.saturating_sub(margin)
     }
 }

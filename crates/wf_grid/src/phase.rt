@@ -1,17 +1,18 @@
 //! A phase on a whole domain: all its numbers are computed from the old ones, and then they are set.
 
-ghost use Rattle.std.specs.Prelude.{◌≡◌, ◌+◌, ◌*◌, ◌^◌, ◌<◌, ◌≤◌, ◌==◌, length, if◌then◌else◌, IfSome, None, Some, option_map, is_none, slice_set, slice_index_or};
-ghost use Rattle.wf_model.specs.Plans.{nx, ny, nz, is_within};
+ghost use Rattle.std.specs.Prelude.{◌≡◌, ℕ, ◌+◌, ◌*◌, ◌<◌, ◌≤◌, ◌==◌, false, length, if◌then◌else◌, IfSome, None, option_map, is_none, slice_set, slice_index_or};
+ghost use Rattle.wf_model.specs.Plans.{nx, ny, nz, is_inside, is_within};
 ghost use Rattle.wf_model.specs.Value.{Answers};
 ghost use Rattle.wf_model.specs.Changes.{in_region, phase_change, changed, overflow_in};
 ghost use Rattle.wf_model.specs.Outcome.{no_list};
 ghost use Rattle.wf_grid.specs.Levels.{AreLists, IsPlaceIn, grids_of, lists_of};
 ghost use Rattle.wf_grid.specs.Filled.{AreExtents, spot_of, phase_number, IsFilled, StopsAt};
+ghost use Rattle.wf_grid.specs.Spanned.{AreFilledTo, IsLevelLong, IsSpan, is_phase_row, is_spanned};
 ghost use Rattle.wf_grid.specs.Reading.{IsRunnable};
 
-use crate::extents::{Extents, Here, domain, extents_of, first, following, is_inside, level};
+use crate::extents::{Extents, Here, domain, extents_of, level, place};
 use crate::sizes::all_sizes;
-use crate::surroundings::{Surroundings, number_here};
+use crate::surroundings::{OldNumbers, Surroundings, number_here};
 use wf_eval::eval;
 use wf_model::{List, Phase, Plan};
 
@@ -26,29 +27,142 @@ fn is_phase_level(phase: &Phase, levels: u32, k: u32) -> bool
     }
 }
 
-/// Whether a phase sets a point.
-#[tactic(auto, unfolding(wf_model::specs::Changes::in_region))]
-fn is_in_region(at: &Surroundings, phase: &Phase, extents: Extents) -> bool
-    requires { AreExtents at.now.plan.now at.now.number phase.now.writes extents }
-    ensures { result ≡ in_region at.now.plan.now at.now.number phase.now at.now.here.k at.now.here.j at.now.here.i }
-{
-    is_phase_level(phase, extents.levels, at.here.k)
-        && is_inside(at.sizes.periodic_y, phase.my, extents.rows, at.here.j)
-        && is_inside(at.sizes.periodic_x, phase.mx, extents.columns, at.here.i)
+/// The points of a direction behind one point, up to another.
+#[derive(Clone, Copy, Debug, PartialEq, Eq)]
+pub struct Span {
+    pub after: u32,
+    pub last: u32,
 }
 
-/// The number of a point after a phase; none is an overflow.
-fn number_after(at: &Surroundings, phase: &Phase, extents: Extents) -> Option<i32>
-    requires runnable { IsRunnable at.now.plan.now at.now.number phase.now }
-    requires extents { AreExtents at.now.plan.now at.now.number phase.now.writes extents }
-    requires inside { IsPlaceIn (nz at.now.plan.now phase.now.writes) (ny at.now.plan.now at.now.number phase.now.writes) (nx at.now.plan.now at.now.number phase.now.writes) at.now.here.k at.now.here.j at.now.here.i }
-    ensures { (m : Answers) → result ≡ phase_number at.now.plan.now m at.now.number at.now.levels.now at.now.step phase.now (spot_of phase.now.writes at.now.here) }
+/// The points of a direction that are at least the margin from both ends, which is 0 in a periodic direction.
+fn inner_span(periodic: bool, margin: u32, count: u32) -> Span
+    ensures { (x : ℕ) → is_spanned result x ≡ is_inside periodic margin count x }
 {
-    if is_in_region(at, phase, extents) {
+    if periodic {
+        Span {
+            after: 0,
+            last: count,
+        }
+    } else {
+        Span {
+            after: margin,
+            last: count.saturating_sub(margin),
+        }
+    }
+}
+
+/// No points.
+fn no_span() -> Span
+    ensures { (x : ℕ) → is_spanned result x ≡ false }
+{
+    Span { after: 0, last: 0 }
+}
+
+/// Whether a point lies in a span.
+fn is_spanned(span: Span, x: u32) -> bool
+    ensures { result ≡ is_spanned span x }
+{
+    span.after < x && x <= span.last
+}
+
+/// Whether a phase sets points of a row.
+fn is_set_row(old: &OldNumbers, phase: &Phase, extents: Extents, k: u32, j: u32) -> bool
+    requires { AreExtents old.now.plan.now old.now.number phase.now.writes extents }
+    ensures { result ≡ is_phase_row old.now.plan.now old.now.number phase.now k j }
+{
+    is_phase_level(phase, extents.levels, k)
+        && is_spanned(inner_span(old.sizes.periodic_y, phase.my, extents.rows), j)
+}
+
+/// The points of a row that a phase sets.
+fn span_of(old: &OldNumbers, phase: &Phase, extents: Extents, k: u32, j: u32) -> Span
+    requires { AreExtents old.now.plan.now old.now.number phase.now.writes extents }
+    ensures { IsSpan old.now.plan.now old.now.number phase.now k j result }
+{
+    if is_set_row(old, phase, extents, k, j) {
+        inner_span(old.sizes.periodic_x, phase.mx, extents.columns)
+    } else {
+        no_span()
+    }
+}
+
+/// Whether a phase sets a point, of whose row it sets these.
+fn is_in_region(at: &Surroundings, phase: &Phase, span: Span) -> bool
+    requires { IsSpan at.now.old.now.plan.now at.now.old.now.number phase.now at.now.here.k at.now.here.j span }
+    ensures { result ≡ in_region at.now.old.now.plan.now at.now.old.now.number phase.now at.now.here.k at.now.here.j at.now.here.i }
+{
+    is_spanned(span, at.here.i)
+}
+
+/// The number of a point after a phase, which sets these points of its row; none is an overflow.
+fn number_after(at: &Surroundings, phase: &Phase, span: Span) -> Option<i32>
+    requires runnable { IsRunnable at.now.old.now.plan.now at.now.old.now.number phase.now }
+    requires span { IsSpan at.now.old.now.plan.now at.now.old.now.number phase.now at.now.here.k at.now.here.j span }
+    requires inside { IsPlaceIn (nz at.now.old.now.plan.now phase.now.writes) (ny at.now.old.now.plan.now at.now.old.now.number phase.now.writes) (nx at.now.old.now.plan.now at.now.old.now.number phase.now.writes) at.now.here.k at.now.here.j at.now.here.i }
+    ensures { (m : Answers) → result ≡ phase_number at.now.old.now.plan.now m at.now.old.now.number at.now.old.now.levels.now at.now.old.now.step phase.now (spot_of phase.now.writes at.now.here) }
+{
+    if is_in_region(at, phase, span) {
         eval(&phase.expr, at).ok()
     } else {
         Some(number_here(at, phase.writes, at.here))
     }
+}
+
+/// Sets a row of the scratch to the numbers that the written level has after a phase, or gives the first point that
+/// overflows. The rows before it are set.
+fn fill_row(
+    old: &OldNumbers,
+    phase: &Phase,
+    extents: Extents,
+    k: u32,
+    j: u32,
+    scratch: &mut [i32],
+) -> Option<Here>
+    requires runnable { IsRunnable old.now.plan.now old.now.number phase.now }
+    requires extents { AreExtents old.now.plan.now old.now.number phase.now.writes extents }
+    requires in_z { (1 ≤ k) × (k ≤ nz old.now.plan.now phase.now.writes) }
+    requires in_y { (1 ≤ j) × (j ≤ ny old.now.plan.now old.now.number phase.now.writes) }
+    requires size { IsLevelLong old.now.plan.now old.now.number phase.now.writes (length scratch.old) }
+    requires filled { (m : Answers) → AreFilledTo old.now.plan.now m old.now.number old.now.levels.now old.now.step phase.now k j scratch.old }
+    ensures size { IsLevelLong old.now.plan.now old.now.number phase.now.writes (length scratch.new) }
+    ensures filled { result ≡ None → (m : Answers) → AreFilledTo old.now.plan.now m old.now.number old.now.levels.now old.now.step phase.now k (j + 1) scratch.new }
+    ensures stopped { IfSome result (λ here. (m : Answers) → StopsAt old.now.plan.now m old.now.number old.now.levels.now old.now.step phase.now (spot_of phase.now.writes here)) }
+{
+    let span = span_of(old, phase, extents, k, j);
+    let start = place(extents, Here { k, j, i: 1 }, scratch.len());
+    for x in 0..extents.columns {
+        let here = Here { k, j, i: x + 1 };
+        match number_after(&Surroundings { old: &*old, here }, phase, span) {
+            Some(value) => scratch[start + x as usize] = value,
+            None => return Some(here),
+        }
+    }
+    None
+}
+
+/// Sets the rows of a level in z of the scratch, as `fill_row` does.
+fn fill_plane(
+    old: &OldNumbers,
+    phase: &Phase,
+    extents: Extents,
+    k: u32,
+    scratch: &mut [i32],
+) -> Option<Here>
+    requires runnable { IsRunnable old.now.plan.now old.now.number phase.now }
+    requires extents { AreExtents old.now.plan.now old.now.number phase.now.writes extents }
+    requires in_z { (1 ≤ k) × (k ≤ nz old.now.plan.now phase.now.writes) }
+    requires size { IsLevelLong old.now.plan.now old.now.number phase.now.writes (length scratch.old) }
+    requires filled { (m : Answers) → AreFilledTo old.now.plan.now m old.now.number old.now.levels.now old.now.step phase.now k 1 scratch.old }
+    ensures size { IsLevelLong old.now.plan.now old.now.number phase.now.writes (length scratch.new) }
+    ensures filled { result ≡ None → (m : Answers) → AreFilledTo old.now.plan.now m old.now.number old.now.levels.now old.now.step phase.now (k + 1) 1 scratch.new }
+    ensures stopped { IfSome result (λ here. (m : Answers) → StopsAt old.now.plan.now m old.now.number old.now.levels.now old.now.step phase.now (spot_of phase.now.writes here)) }
+{
+    for y in 0..extents.rows {
+        if let Some(here) = fill_row(old, phase, extents, k, y + 1, scratch) {
+            return Some(here);
+        }
+    }
+    None
 }
 
 /// Sets the scratch to the numbers that the written level has after a phase, or gives the first point that overflows.
@@ -63,29 +177,23 @@ fn fill(
     requires lists { AreLists plan.now number levels.now }
     requires runnable { IsRunnable plan.now number phase.now }
     requires fields { length plan.now.fields ≤ 64 }
-    requires few { nz plan.now phase.now.writes < 2 ^ 31 }
     requires size { length scratch.old ≡ nz plan.now phase.now.writes * (ny plan.now number phase.now.writes * nx plan.now number phase.now.writes) }
     ensures length { length scratch.new ≡ nz plan.now phase.now.writes * (ny plan.now number phase.now.writes * nx plan.now number phase.now.writes) }
     ensures done { result ≡ None → (m : Answers) → IsFilled plan.now m number levels.now step phase.now (length scratch.new) scratch.new }
     ensures stopped { IfSome result (λ here. (m : Answers) → StopsAt plan.now m number levels.now step phase.now (spot_of phase.now.writes here)) }
 {
     let extents = extents_of(domain(plan, number), level(plan, phase.writes));
-    let sizes = all_sizes(plan, number);
-    let mut here = first();
-    for cell in scratch.iter_mut() {
-        let at = Surroundings {
-            plan,
-            number,
-            sizes: &sizes,
-            levels,
-            here,
-            step,
-        };
-        match number_after(&at, phase, extents) {
-            Some(value) => *cell = value,
-            None => return Some(here),
+    let old = OldNumbers {
+        plan,
+        number,
+        sizes: all_sizes(plan, number),
+        levels,
+        step,
+    };
+    for z in 0..extents.levels {
+        if let Some(here) = fill_plane(&old, phase, extents, z + 1, scratch) {
+            return Some(here);
         }
-        here = following(extents, here);
     }
     None
 }
@@ -113,7 +221,6 @@ pub fn run_phase(
     requires lists { AreLists plan.now number levels.old }
     requires runnable { IsRunnable plan.now number phase.now }
     requires fields { length plan.now.fields ≤ 64 }
-    requires few { nz plan.now phase.now.writes < 2 ^ 31 }
     requires size { length (slice_index_or levels.old phase.now.writes no_list) ≤ length scratch.old }
     ensures point { (m : Answers) → option_map (spot_of phase.now.writes) result ≡ overflow_in plan.now (phase_change plan.now m (grids_of plan.now number levels.old) number step phase.now) }
     ensures lists { (m : Answers) → levels.new ≡ (if is_none result then lists_of plan.now number (changed (phase_change plan.now m (grids_of plan.now number levels.old) number step phase.now) (grids_of plan.now number levels.old)) else levels.old) }

@@ -19,6 +19,8 @@ pub struct LevelSize {
 pub struct Sizes {
     pub periodic_x: bool,
     pub periodic_y: bool,
+    /// Whether a direction is periodic.
+    pub wraps: bool,
     pub levels: [LevelSize; 64],
 }
 
@@ -72,6 +74,7 @@ pub fn all_sizes(plan: &Plan, number: u32) -> Sizes
     Sizes {
         periodic_x: domain.periodic_x,
         periodic_y: domain.periodic_y,
+        wraps: domain.periodic_x || domain.periodic_y,
         levels: level_sizes(plan, number),
     }
 }

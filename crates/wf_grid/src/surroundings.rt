@@ -1,7 +1,7 @@
 //! What the expression of a phase sees at a point of whole domains.
 
 ghost use Rattle.std.specs.Prelude.{◌≡◌, ◌*◌, ◌^◌, ◌<◌, ◌≤◌, IsTrue, length, pos, ◌+ℤ◌, ◌≤ℤ◌, unsigned_abs, if◌then◌else◌, slice_index_or};
-ghost use Rattle.wf_model.specs.Plans.{nx, ny, nz, level_at, point_x, point_y};
+ghost use Rattle.wf_model.specs.Plans.{domain_of, nx, ny, nz, level_at, point_x, point_y};
 ghost use Rattle.wf_model.specs.Sound.{IsLevel};
 ghost use Rattle.wf_model.specs.Changes.{sight_at};
 ghost use Rattle.wf_model.specs.Grids.{grid_from};
@@ -15,17 +15,23 @@ use crate::sizes::{LevelSize, Sizes};
 use wf_eval::Reader;
 use wf_model::{List, Plan};
 
-/// A point of a domain in a step, and the sizes and the numbers of all levels of the domain.
+/// The numbers of all levels of a domain before a phase, the sizes of the levels, and the step.
 #[derive(Clone, Copy, Drop)]
-pub struct Surroundings<'a> {
+pub struct OldNumbers<'a> {
     pub plan: &'a Plan,
     pub number: u32,
-    pub sizes: &'a Sizes,
+    pub sizes: Sizes,
     pub levels: &'a [List<i32>],
-    pub here: Here,
     pub step: u64,
     pub ghost lists: { AreLists plan.now number levels.now },
-    pub ghost sizes_are: { AreSizes plan.now number sizes.now },
+    pub ghost sizes_are: { AreSizes plan.now number sizes },
+}
+
+/// A point of a domain, and the numbers of the domain before a phase.
+#[derive(Clone, Copy, Drop)]
+pub struct Surroundings<'a> {
+    pub old: &'a OldNumbers<'a>,
+    pub here: Here,
 }
 
 /// The level so many levels further on.
@@ -48,23 +54,33 @@ fn level_met(size: LevelSize, k: u32, dk: i32) -> u32
 
 /// The size of a field level.
 fn size_at(at: &Surroundings, field: u32) -> LevelSize
-    requires { IsLevel at.now.plan.now field }
-    ensures { IsSize at.now.plan.now at.now.number field result }
+    requires { IsLevel at.now.old.now.plan.now field }
+    ensures { IsSize at.now.old.now.plan.now at.now.old.now.number field result }
 {
-    at.sizes.levels[field as usize]
+    at.old.sizes.levels[field as usize]
 }
 
-/// The point that a read meets: in a periodic direction places wrap.
-fn met(at: &Surroundings, field: u32, di: i32, dk: i32, dj: i32) -> Here
-    requires { IsReadable at.now.plan.now at.now.number at.now.here.k at.now.here.j at.now.here.i (record { field = field; di = di; dk = dk; dj = dj }) }
-    ensures k { result.k ≡ level_at at.now.plan.now field at.now.here.k dk }
-    ensures j { result.j ≡ point_y at.now.plan.now at.now.number field (pos at.now.here.j +ℤ dj) }
-    ensures i { result.i ≡ point_x at.now.plan.now at.now.number field (pos at.now.here.i +ℤ di) }
-    ensures inside { IsPlaceIn (nz at.now.plan.now field) (ny at.now.plan.now at.now.number field) (nx at.now.plan.now at.now.number field) result.k result.j result.i }
+/// The point that a read meets: places wrap in a periodic direction, and which directions are periodic is told.
+fn met(
+    at: &Surroundings,
+    periodic_x: bool,
+    periodic_y: bool,
+    field: u32,
+    di: i32,
+    dk: i32,
+    dj: i32,
+) -> Here
+    requires readable { IsReadable at.now.old.now.plan.now at.now.old.now.number at.now.here.k at.now.here.j at.now.here.i (record { field = field; di = di; dk = dk; dj = dj }) }
+    requires x { periodic_x ≡ (domain_of at.now.old.now.plan.now at.now.old.now.number).periodic_x }
+    requires y { periodic_y ≡ (domain_of at.now.old.now.plan.now at.now.old.now.number).periodic_y }
+    ensures k { result.k ≡ level_at at.now.old.now.plan.now field at.now.here.k dk }
+    ensures j { result.j ≡ point_y at.now.old.now.plan.now at.now.old.now.number field (pos at.now.here.j +ℤ dj) }
+    ensures i { result.i ≡ point_x at.now.old.now.plan.now at.now.old.now.number field (pos at.now.here.i +ℤ di) }
+    ensures inside { IsPlaceIn (nz at.now.old.now.plan.now field) (ny at.now.old.now.plan.now at.now.old.now.number field) (nx at.now.old.now.plan.now at.now.old.now.number field) result.k result.j result.i }
 {
     let size = size_at(at, field);
-    let i = wrapped_place(at.sizes.periodic_x, size.extents.columns, at.here.i, di);
-    let j = wrapped_place(at.sizes.periodic_y, size.extents.rows, at.here.j, dj);
+    let i = wrapped_place(periodic_x, size.extents.columns, at.here.i, di);
+    let j = wrapped_place(periodic_y, size.extents.rows, at.here.j, dj);
     let k = level_met(size, at.here.k, dk);
     Here { k, j, i }
 }
@@ -82,11 +98,11 @@ fn number_in(levels: &[List<i32>], field: u32, extents: Extents, here: Here) -> 
 
 /// The number of a point of the domain.
 pub fn number_here(at: &Surroundings, field: u32, here: Here) -> i32
-    requires level { IsLevel at.now.plan.now field }
-    requires inside { IsPlaceIn (nz at.now.plan.now field) (ny at.now.plan.now at.now.number field) (nx at.now.plan.now at.now.number field) here.k here.j here.i }
-    ensures { result ≡ grids_of at.now.plan.now at.now.number at.now.levels.now at.now.number field here.k here.j here.i }
+    requires level { IsLevel at.now.old.now.plan.now field }
+    requires inside { IsPlaceIn (nz at.now.old.now.plan.now field) (ny at.now.old.now.plan.now at.now.old.now.number field) (nx at.now.old.now.plan.now at.now.old.now.number field) here.k here.j here.i }
+    ensures { result ≡ grids_of at.now.old.now.plan.now at.now.old.now.number at.now.old.now.levels.now at.now.old.now.number field here.k here.j here.i }
 {
-    number_in(at.levels, field, size_at(at, field).extents, here)
+    number_in(at.old.levels, field, size_at(at, field).extents, here)
 }
 
 /// The number of a point.
@@ -100,10 +116,21 @@ pub fn number_at(plan: &Plan, number: u32, levels: &[List<i32>], field: u32, her
     number_in(levels, field, extents, here)
 }
 
-impl Reader for Surroundings<'_> {
-    ghost sight = { λ s. sight_at s.plan.now (grids_of s.plan.now s.number s.levels.now) s.number s.step s.here.k s.here.j s.here.i };
+/// The number that a read meets in a domain that is periodic in a direction.
+#[cold]
+#[inline(never)]
+fn number_wrapped(at: &Surroundings, field: u32, di: i32, dk: i32, dj: i32) -> i32
+    requires { IsReadable at.now.old.now.plan.now at.now.old.now.number at.now.here.k at.now.here.j at.now.here.i (record { field = field; di = di; dk = dk; dj = dj }) }
+    ensures { result ≡ (sight_at at.now.old.now.plan.now (grids_of at.now.old.now.plan.now at.now.old.now.number at.now.old.now.levels.now) at.now.old.now.number at.now.old.now.step at.now.here.k at.now.here.j at.now.here.i).read field di dk dj }
+{
+    let (x, y) = (at.old.sizes.periodic_x, at.old.sizes.periodic_y);
+    number_here(at, field, met(at, x, y, field, di, dk, dj))
+}
 
-    ghost CanRead = { λ s r. IsReadable s.plan.now s.number s.here.k s.here.j s.here.i r };
+impl Reader for Surroundings<'_> {
+    ghost sight = { λ s. sight_at s.old.now.plan.now (grids_of s.old.now.plan.now s.old.now.number s.old.now.levels.now) s.old.now.number s.old.now.step s.here.k s.here.j s.here.i };
+
+    ghost CanRead = { λ s r. IsReadable s.old.now.plan.now s.old.now.number s.here.k s.here.j s.here.i r };
 
     fn i(&self) -> u32 {
         self.here.i
@@ -118,10 +145,14 @@ impl Reader for Surroundings<'_> {
     }
 
     fn step(&self) -> u64 {
-        self.step
+        self.old.step
     }
 
     fn read(&self, field: u32, di: i32, dk: i32, dj: i32) -> i32 {
-        number_here(self, field, met(self, field, di, dk, dj))
+        if self.old.sizes.wraps {
+            number_wrapped(self, field, di, dk, dj)
+        } else {
+            number_here(self, field, met(self, false, false, field, di, dk, dj))
+        }
     }
 }
