@@ -19,6 +19,10 @@ abbrev pub unless_none : Option ℤ → Result ℤ Overflow
 unless_none None = Err (record {})
 unless_none (Some z) = Ok z
 
+-- two numbers
+abbrev pub pair : ℤ → ℤ → Option (ℤ × ℤ)
+pair x y = Some (x, y)
+
 -- a read of any level, at any offset
 abbrev pub AnyRead : Read → Type 0
 AnyRead r = Unit {0}
