@@ -109,10 +109,13 @@ number-unreachable-requires g t c = call-is c.in-Call.id c.in-Call.arguments (su
 pub number-both-requires : goal.number-both-requires
 number-both-requires g t c κs l = (
   omega (arith, c.decreases, nodes-Add c.in-Add.a c.in-Add.b, ap nodes_of c.in-Add.is, ap nodes_of c.get-in-Add.ensures, ap nodes_of c.get-in-Add-2.ensures),
-  (l, (
-    operand (g.R.Reader.CanRead c.args.reader.now) c.args.expression.now (expr.Add c.in-Add.a c.in-Add.b) c.in-Add.a c.get-in-Add.result.now c.in-Add.is c.get-in-Add.ensures (λ h. (add_needs (g.R.Reader.CanRead c.args.reader.now) c.in-Add.a c.in-Add.b h).left) c.requires,
-    operand (g.R.Reader.CanRead c.args.reader.now) c.args.expression.now (expr.Add c.in-Add.a c.in-Add.b) c.in-Add.b c.get-in-Add-2.result.now c.in-Add.is c.get-in-Add-2.ensures (λ h. (add_needs (g.R.Reader.CanRead c.args.reader.now) c.in-Add.a c.in-Add.b h).right) c.requires,
-  )),
+  (
+    l,
+    (
+      operand (g.R.Reader.CanRead c.args.reader.now) c.args.expression.now (expr.Add c.in-Add.a c.in-Add.b) c.in-Add.a c.get-in-Add.result.now c.in-Add.is c.get-in-Add.ensures (λ h. (add_needs (g.R.Reader.CanRead c.args.reader.now) c.in-Add.a c.in-Add.b h).left) c.requires,
+      operand (g.R.Reader.CanRead c.args.reader.now) c.args.expression.now (expr.Add c.in-Add.a c.in-Add.b) c.in-Add.b c.get-in-Add-2.result.now c.in-Add.is c.get-in-Add-2.ensures (λ h. (add_needs (g.R.Reader.CanRead c.args.reader.now) c.in-Add.a c.in-Add.b h).right) c.requires,
+    ),
+  ),
 )
 
 pub number-returns-in-Add : goal.number-returns-in-Add
@@ -121,10 +124,13 @@ number-returns-in-Add g t c m = of_two m (g.R.Reader.sight c.args.reader.now) c.
 pub number-both-requires-in-Sub : goal.number-both-requires-in-Sub
 number-both-requires-in-Sub g t c κs l = (
   omega (arith, c.decreases, nodes-Sub c.in-Sub.a c.in-Sub.b, ap nodes_of c.in-Sub.is, ap nodes_of c.get-in-Sub.ensures, ap nodes_of c.get-in-Sub-2.ensures),
-  (l, (
-    operand (g.R.Reader.CanRead c.args.reader.now) c.args.expression.now (expr.Sub c.in-Sub.a c.in-Sub.b) c.in-Sub.a c.get-in-Sub.result.now c.in-Sub.is c.get-in-Sub.ensures (λ h. (sub_needs (g.R.Reader.CanRead c.args.reader.now) c.in-Sub.a c.in-Sub.b h).left) c.requires,
-    operand (g.R.Reader.CanRead c.args.reader.now) c.args.expression.now (expr.Sub c.in-Sub.a c.in-Sub.b) c.in-Sub.b c.get-in-Sub-2.result.now c.in-Sub.is c.get-in-Sub-2.ensures (λ h. (sub_needs (g.R.Reader.CanRead c.args.reader.now) c.in-Sub.a c.in-Sub.b h).right) c.requires,
-  )),
+  (
+    l,
+    (
+      operand (g.R.Reader.CanRead c.args.reader.now) c.args.expression.now (expr.Sub c.in-Sub.a c.in-Sub.b) c.in-Sub.a c.get-in-Sub.result.now c.in-Sub.is c.get-in-Sub.ensures (λ h. (sub_needs (g.R.Reader.CanRead c.args.reader.now) c.in-Sub.a c.in-Sub.b h).left) c.requires,
+      operand (g.R.Reader.CanRead c.args.reader.now) c.args.expression.now (expr.Sub c.in-Sub.a c.in-Sub.b) c.in-Sub.b c.get-in-Sub-2.result.now c.in-Sub.is c.get-in-Sub-2.ensures (λ h. (sub_needs (g.R.Reader.CanRead c.args.reader.now) c.in-Sub.a c.in-Sub.b h).right) c.requires,
+    ),
+  ),
 )
 
 pub number-returns-in-Sub : goal.number-returns-in-Sub
@@ -133,10 +139,13 @@ number-returns-in-Sub g t c m = of_two m (g.R.Reader.sight c.args.reader.now) c.
 pub number-both-requires-in-Mul : goal.number-both-requires-in-Mul
 number-both-requires-in-Mul g t c κs l = (
   omega (arith, c.decreases, nodes-Mul c.in-Mul.a c.in-Mul.b, ap nodes_of c.in-Mul.is, ap nodes_of c.get-in-Mul.ensures, ap nodes_of c.get-in-Mul-2.ensures),
-  (l, (
-    operand (g.R.Reader.CanRead c.args.reader.now) c.args.expression.now (expr.Mul c.in-Mul.a c.in-Mul.b) c.in-Mul.a c.get-in-Mul.result.now c.in-Mul.is c.get-in-Mul.ensures (λ h. (mul_needs (g.R.Reader.CanRead c.args.reader.now) c.in-Mul.a c.in-Mul.b h).left) c.requires,
-    operand (g.R.Reader.CanRead c.args.reader.now) c.args.expression.now (expr.Mul c.in-Mul.a c.in-Mul.b) c.in-Mul.b c.get-in-Mul-2.result.now c.in-Mul.is c.get-in-Mul-2.ensures (λ h. (mul_needs (g.R.Reader.CanRead c.args.reader.now) c.in-Mul.a c.in-Mul.b h).right) c.requires,
-  )),
+  (
+    l,
+    (
+      operand (g.R.Reader.CanRead c.args.reader.now) c.args.expression.now (expr.Mul c.in-Mul.a c.in-Mul.b) c.in-Mul.a c.get-in-Mul.result.now c.in-Mul.is c.get-in-Mul.ensures (λ h. (mul_needs (g.R.Reader.CanRead c.args.reader.now) c.in-Mul.a c.in-Mul.b h).left) c.requires,
+      operand (g.R.Reader.CanRead c.args.reader.now) c.args.expression.now (expr.Mul c.in-Mul.a c.in-Mul.b) c.in-Mul.b c.get-in-Mul-2.result.now c.in-Mul.is c.get-in-Mul-2.ensures (λ h. (mul_needs (g.R.Reader.CanRead c.args.reader.now) c.in-Mul.a c.in-Mul.b h).right) c.requires,
+    ),
+  ),
 )
 
 pub number-returns-in-Mul : goal.number-returns-in-Mul
@@ -145,10 +154,13 @@ number-returns-in-Mul g t c m = of_two m (g.R.Reader.sight c.args.reader.now) c.
 pub number-both-requires-in-Min : goal.number-both-requires-in-Min
 number-both-requires-in-Min g t c κs l = (
   omega (arith, c.decreases, nodes-Min c.in-Min.a c.in-Min.b, ap nodes_of c.in-Min.is, ap nodes_of c.get-in-Min.ensures, ap nodes_of c.get-in-Min-2.ensures),
-  (l, (
-    operand (g.R.Reader.CanRead c.args.reader.now) c.args.expression.now (expr.Min c.in-Min.a c.in-Min.b) c.in-Min.a c.get-in-Min.result.now c.in-Min.is c.get-in-Min.ensures (λ h. (min_needs (g.R.Reader.CanRead c.args.reader.now) c.in-Min.a c.in-Min.b h).left) c.requires,
-    operand (g.R.Reader.CanRead c.args.reader.now) c.args.expression.now (expr.Min c.in-Min.a c.in-Min.b) c.in-Min.b c.get-in-Min-2.result.now c.in-Min.is c.get-in-Min-2.ensures (λ h. (min_needs (g.R.Reader.CanRead c.args.reader.now) c.in-Min.a c.in-Min.b h).right) c.requires,
-  )),
+  (
+    l,
+    (
+      operand (g.R.Reader.CanRead c.args.reader.now) c.args.expression.now (expr.Min c.in-Min.a c.in-Min.b) c.in-Min.a c.get-in-Min.result.now c.in-Min.is c.get-in-Min.ensures (λ h. (min_needs (g.R.Reader.CanRead c.args.reader.now) c.in-Min.a c.in-Min.b h).left) c.requires,
+      operand (g.R.Reader.CanRead c.args.reader.now) c.args.expression.now (expr.Min c.in-Min.a c.in-Min.b) c.in-Min.b c.get-in-Min-2.result.now c.in-Min.is c.get-in-Min-2.ensures (λ h. (min_needs (g.R.Reader.CanRead c.args.reader.now) c.in-Min.a c.in-Min.b h).right) c.requires,
+    ),
+  ),
 )
 
 pub number-returns-in-Min : goal.number-returns-in-Min
@@ -157,10 +169,13 @@ number-returns-in-Min g t c m = of_two m (g.R.Reader.sight c.args.reader.now) c.
 pub number-both-requires-in-Max : goal.number-both-requires-in-Max
 number-both-requires-in-Max g t c κs l = (
   omega (arith, c.decreases, nodes-Max c.in-Max.a c.in-Max.b, ap nodes_of c.in-Max.is, ap nodes_of c.get-in-Max.ensures, ap nodes_of c.get-in-Max-2.ensures),
-  (l, (
-    operand (g.R.Reader.CanRead c.args.reader.now) c.args.expression.now (expr.Max c.in-Max.a c.in-Max.b) c.in-Max.a c.get-in-Max.result.now c.in-Max.is c.get-in-Max.ensures (λ h. (max_needs (g.R.Reader.CanRead c.args.reader.now) c.in-Max.a c.in-Max.b h).left) c.requires,
-    operand (g.R.Reader.CanRead c.args.reader.now) c.args.expression.now (expr.Max c.in-Max.a c.in-Max.b) c.in-Max.b c.get-in-Max-2.result.now c.in-Max.is c.get-in-Max-2.ensures (λ h. (max_needs (g.R.Reader.CanRead c.args.reader.now) c.in-Max.a c.in-Max.b h).right) c.requires,
-  )),
+  (
+    l,
+    (
+      operand (g.R.Reader.CanRead c.args.reader.now) c.args.expression.now (expr.Max c.in-Max.a c.in-Max.b) c.in-Max.a c.get-in-Max.result.now c.in-Max.is c.get-in-Max.ensures (λ h. (max_needs (g.R.Reader.CanRead c.args.reader.now) c.in-Max.a c.in-Max.b h).left) c.requires,
+      operand (g.R.Reader.CanRead c.args.reader.now) c.args.expression.now (expr.Max c.in-Max.a c.in-Max.b) c.in-Max.b c.get-in-Max-2.result.now c.in-Max.is c.get-in-Max-2.ensures (λ h. (max_needs (g.R.Reader.CanRead c.args.reader.now) c.in-Max.a c.in-Max.b h).right) c.requires,
+    ),
+  ),
 )
 
 pub number-returns-in-Max : goal.number-returns-in-Max
@@ -169,10 +184,13 @@ number-returns-in-Max g t c m = of_two m (g.R.Reader.sight c.args.reader.now) c.
 pub number-both-requires-in-If : goal.number-both-requires-in-If
 number-both-requires-in-If g t c κs l = (
   omega (arith, c.decreases, nodes-If c.in-If.test c.in-If.left c.in-If.right c.in-If.yes c.in-If.no, ap nodes_of c.in-If.is, ap nodes_of c.get-in-If.ensures, ap nodes_of c.get-in-If-2.ensures),
-  (l, (
-    operand (g.R.Reader.CanRead c.args.reader.now) c.args.expression.now (expr.If c.in-If.test c.in-If.left c.in-If.right c.in-If.yes c.in-If.no) c.in-If.left c.get-in-If.result.now c.in-If.is c.get-in-If.ensures (λ h. (if_needs (g.R.Reader.CanRead c.args.reader.now) c.in-If.test c.in-If.left c.in-If.right c.in-If.yes c.in-If.no h).left) c.requires,
-    operand (g.R.Reader.CanRead c.args.reader.now) c.args.expression.now (expr.If c.in-If.test c.in-If.left c.in-If.right c.in-If.yes c.in-If.no) c.in-If.right c.get-in-If-2.result.now c.in-If.is c.get-in-If-2.ensures (λ h. (if_needs (g.R.Reader.CanRead c.args.reader.now) c.in-If.test c.in-If.left c.in-If.right c.in-If.yes c.in-If.no h).right) c.requires,
-  )),
+  (
+    l,
+    (
+      operand (g.R.Reader.CanRead c.args.reader.now) c.args.expression.now (expr.If c.in-If.test c.in-If.left c.in-If.right c.in-If.yes c.in-If.no) c.in-If.left c.get-in-If.result.now c.in-If.is c.get-in-If.ensures (λ h. (if_needs (g.R.Reader.CanRead c.args.reader.now) c.in-If.test c.in-If.left c.in-If.right c.in-If.yes c.in-If.no h).left) c.requires,
+      operand (g.R.Reader.CanRead c.args.reader.now) c.args.expression.now (expr.If c.in-If.test c.in-If.left c.in-If.right c.in-If.yes c.in-If.no) c.in-If.right c.get-in-If-2.result.now c.in-If.is c.get-in-If-2.ensures (λ h. (if_needs (g.R.Reader.CanRead c.args.reader.now) c.in-If.test c.in-If.left c.in-If.right c.in-If.yes c.in-If.no h).right) c.requires,
+    ),
+  ),
 )
 
 pub number-returns-in-Some-true : goal.number-returns-in-Some-true
