@@ -7,25 +7,37 @@ ghost use Rattle.wf_model.specs.Plans.{nx, ny, nz};
 ghost use Rattle.wf_model.specs.Sound.{IsLevel};
 ghost use Rattle.wf_model.specs.Streams.{one_if, file_list, file_x, file_y};
 ghost use Rattle.wf_grid.specs.FileShape.{file_row, file_plane};
-ghost use Rattle.wf_grid.specs.Levels.{AreLists, grids_of};
+ghost use Rattle.wf_grid.specs.Filled.{AreExtents};
+ghost use Rattle.wf_grid.specs.Levels.{AreLists, IsPlaceIn, grids_of};
 ghost use Rattle.wf_grid.specs.Reached.{IsSteppable, IsReached};
 ghost use Rattle.wf_stream.specs.Writing.{label, labels};
 
-use crate::extents::{Here, domain, extents_of, level, wrapped_place};
-use crate::surroundings::number_at;
+use crate::extents::{Extents, Here, domain, level, wrapped_place};
+use crate::sizes::level_size;
+use crate::surroundings::number_in;
 use std::alloc::{AllocError, Global};
 use wf_cdf::stream_levels;
 use wf_model::{Frame, List, Plan, Run, RunName, Slab};
 
-/// A level of a domain, and the numbers of all levels of the domain.
+/// A level of a domain with its extents, and the numbers of all levels of the domain.
 #[derive(Clone, Copy, Drop)]
 struct Numbers<'a> {
     plan: &'a Plan,
     number: u32,
     field: u32,
+    extents: Extents,
     levels: &'a [List<i32>],
     ghost lists: { AreLists plan.now number levels.now },
     ghost is: { IsLevel plan.now field },
+    ghost sized: { AreExtents plan.now number field extents },
+}
+
+/// The number of a point of the level.
+fn number_of(at: &Numbers, here: Here) -> i32
+    requires { IsPlaceIn (nz at.now.plan.now at.now.field) (ny at.now.plan.now at.now.number at.now.field) (nx at.now.plan.now at.now.number at.now.field) here.k here.j here.i }
+    ensures { result ≡ grids_of at.now.plan.now at.now.number at.now.levels.now at.now.number at.now.field here.k here.j here.i }
+{
+    number_in(at.levels, at.field, at.extents, here)
 }
 
 /// The points of a direction in files: there a staggered field has its extra point in a periodic direction too.
@@ -43,11 +55,11 @@ fn push_row(at: &Numbers, k: u32, j: u32, values: &mut Vec<i32>) -> Result<(), A
 {
     let domain = domain(at.plan, at.number);
     let level = level(at.plan, at.field);
-    let columns = extents_of(domain, level).columns;
+    let columns = at.extents.columns;
     for x in 0..file_points(domain.ide, level.stag_x) {
         let i = wrapped_place(domain.periodic_x, columns, x + 1, 0);
         let here = Here { k, j, i };
-        values.push(number_at(at.plan, at.number, at.levels, at.field, here))?;
+        values.push(number_of(at, here))?;
     }
     Ok(())
 }
@@ -59,7 +71,7 @@ fn push_plane(at: &Numbers, k: u32, values: &mut Vec<i32>) -> Result<(), AllocEr
 {
     let domain = domain(at.plan, at.number);
     let level = level(at.plan, at.field);
-    let rows = extents_of(domain, level).rows;
+    let rows = at.extents.rows;
     for y in 0..file_points(domain.jde, level.stag_y) {
         push_row(
             at,
@@ -110,10 +122,12 @@ fn slab_of<N: RunName>(
     requires level { IsLevel N.run.plan field }
     ensures { IfOk result (λ s. label s ≡ (frame.now.number, field)) }
 {
+    let plan = run.plan();
     let at = Numbers {
-        plan: run.plan(),
+        plan,
         number: 1,
         field,
+        extents: level_size(plan, 1, field).extents,
         levels,
     };
     let values = file_numbers(alloc, &at)?;

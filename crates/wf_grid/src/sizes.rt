@@ -25,7 +25,7 @@ pub struct Sizes {
 }
 
 /// The size of a field level in a domain.
-fn level_size(plan: &Plan, number: u32, field: u32) -> LevelSize
+pub fn level_size(plan: &Plan, number: u32, field: u32) -> LevelSize
     requires domain { IsDomain plan.now number }
     requires level { IsLevel plan.now field }
     ensures { IsSize plan.now number field result }

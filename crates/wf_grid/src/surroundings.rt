@@ -10,7 +10,7 @@ ghost use Rattle.wf_grid.specs.Levels.{AreLists, IsPlaceIn, grids_of};
 ghost use Rattle.wf_grid.specs.Reading.{IsReadable};
 ghost use Rattle.wf_grid.specs.Sized.{IsSize, AreSizes};
 
-use crate::extents::{Extents, Here, domain, extents_of, level, place, wrapped_place};
+use crate::extents::{Extents, Here, place, wrapped_place};
 use crate::sizes::{LevelSize, Sizes};
 use wf_eval::Reader;
 use wf_model::{List, Plan};
@@ -86,7 +86,7 @@ fn met(
 }
 
 /// The number of a point of a level that has these extents.
-fn number_in(levels: &[List<i32>], field: u32, extents: Extents, here: Here) -> i32
+pub fn number_in(levels: &[List<i32>], field: u32, extents: Extents, here: Here) -> i32
     requires level { field < length levels.now }
     requires inside { IsPlaceIn extents.levels extents.rows extents.columns here.k here.j here.i }
     requires size { length (slice_index_or levels.now field no_list) ≡ extents.levels * (extents.rows * extents.columns) }
@@ -103,17 +103,6 @@ pub fn number_here(at: &Surroundings, field: u32, here: Here) -> i32
     ensures { result ≡ grids_of at.now.old.now.plan.now at.now.old.now.number at.now.old.now.levels.now at.now.old.now.number field here.k here.j here.i }
 {
     number_in(at.old.levels, field, size_at(at, field).extents, here)
-}
-
-/// The number of a point.
-pub fn number_at(plan: &Plan, number: u32, levels: &[List<i32>], field: u32, here: Here) -> i32
-    requires lists { AreLists plan.now number levels.now }
-    requires level { IsLevel plan.now field }
-    requires inside { IsPlaceIn (nz plan.now field) (ny plan.now number field) (nx plan.now number field) here.k here.j here.i }
-    ensures { result ≡ grids_of plan.now number levels.now number field here.k here.j here.i }
-{
-    let extents = extents_of(domain(plan, number), level(plan, field));
-    number_in(levels, field, extents, here)
 }
 
 /// The number that a read meets in a domain that is periodic in a direction.

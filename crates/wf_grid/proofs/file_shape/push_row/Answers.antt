@@ -4,7 +4,7 @@ use mir.Syntax.{w32}
 use Rattle.std.specs.Prelude.{ℤ, pos, FitsSigned}
 use Rattle.std.specs.List.{range_with_len}
 use Rattle.wf_model.specs.declared.plan.Domain.{Domain}
-use Rattle.wf_model.specs.Plans.{domain_of, extra, nx, point_x}
+use Rattle.wf_model.specs.Plans.{domain_of, nx, point_x}
 use Rattle.wf_model.specs.Streams.{one_if, file_x}
 use Rattle.wf_grid.specs.FileShape.{file_row}
 use Rattle.wf_grid.specs.Levels.{grids_of}
@@ -15,14 +15,12 @@ pub loop-x-preserved : goal.loop-x-preserved
 loop-x-preserved c =
     let at = c.args.at.now in
     let x : ℕ = c.loop-x.x in
-    let columns : c.extents_of-columns.result.columns ≡ nx at.plan.now at.number at.field
-    = c.extents_of-columns.ensures.columns ∙ (λ n. (c.domain-domain.ensures n).ide - 1 + extra (c.level-level.ensures n).stag_x (c.domain-domain.ensures n).periodic_x) in
     let here : c.wrapped_place-i.result ≡ point_x at.plan.now at.number at.field (pos (c.loop-x.x + 1))
-    = point_at c.domain-domain.result.now.periodic_x (domain_of at.plan.now at.number).periodic_x c.extents_of-columns.result.columns (nx at.plan.now at.number at.field) (c.loop-x.x + 1) c.wrapped_place-i.result
-    c.wrapped_place-i.ensures.value (ap (λ (d : Domain). d.periodic_x) c.domain-domain.ensures) columns in
-    let fits : FitsSigned w32 c.number_at.result = search rules in
-    grow_map (λ i. grids_of at.plan.now at.number at.levels.now at.number at.field c.args.k c.args.j (point_x at.plan.now at.number at.field (pos i))) c.args.values.now.items c.loop-x.values.items c.push.new.self.items c.loop-x.x c.number_at.result
-    c.loop-x.invariant (c.in_ok-push.ensures.items ∙ ap (λ (z : ℤ). c.loop-x.values.items ++ z ∷ []) (to_z-of_z w32 c.number_at.result fits)) (c.number_at.ensures ∙ ap (grids_of at.plan.now at.number at.levels.now at.number at.field c.args.k c.args.j) here)
+    = point_at c.domain-domain.result.now.periodic_x (domain_of at.plan.now at.number).periodic_x at.extents.columns (nx at.plan.now at.number at.field) (c.loop-x.x + 1) c.wrapped_place-i.result
+    c.wrapped_place-i.ensures.value (ap (λ (d : Domain). d.periodic_x) c.domain-domain.ensures) at.sized.columns in
+    let fits : FitsSigned w32 c.number_of.result = search rules in
+    grow_map (λ i. grids_of at.plan.now at.number at.levels.now at.number at.field c.args.k c.args.j (point_x at.plan.now at.number at.field (pos i))) c.args.values.now.items c.loop-x.values.items c.push.new.self.items c.loop-x.x c.number_of.result
+    c.loop-x.invariant (c.in_ok-push.ensures.items ∙ ap (λ (z : ℤ). c.loop-x.values.items ++ z ∷ []) (to_z-of_z w32 c.number_of.result fits)) (c.number_of.ensures ∙ ap (grids_of at.plan.now at.number at.levels.now at.number at.field c.args.k c.args.j) here)
 
 pub returns : goal.returns
 unfolding file_row
