@@ -25,4 +25,6 @@ mod check_tests;
 #[cfg(test)]
 mod plain_tests;
 #[cfg(test)]
+mod settle_tests;
+#[cfg(test)]
 mod tests;

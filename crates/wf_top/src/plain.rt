@@ -26,19 +26,19 @@ use wf_model::{CoreError, Finished, Initial, Name, Plan};
 use wf_setup::{SetupError, read_begin_data, read_case};
 use wf_words::{WordsError, plain_words};
 
-/// What a run is made of: its plan, and what it begins with.
+/// The plan of a run and what it begins with.
 #[derive(Drop)]
-struct Run {
-    plan: Plan,
-    initial: Initial,
+pub(crate) struct RunParts {
+    pub(crate) plan: Plan,
+    pub(crate) initial: Initial,
 }
 
 /// Reads the texts of a run and then its input files.
-fn read_run<S: Store>(
+pub(crate) fn read_run<S: Store>(
     alloc: Global,
     store: &mut S,
     defines: &[(Name, Name)],
-) -> Result<Run, SetupError>
+) -> Result<RunParts, SetupError>
     ensures run { (m : Files) → S.files store.old ≡ Some m → Gives (λ r. run_from r.plan r.initial) refusal_of result (run_read m defines.now) }
     ensures ready { IfOk result (λ r. IsReady r.plan r.initial) }
     ensures only { OnlyRead (S.files store.old) (S.files store.new) (S.faults store.old) (S.faults store.new) }
@@ -50,14 +50,14 @@ fn read_run<S: Store>(
         Err(error) => return Err(error),
     };
     match read_begin_data(alloc, store, &plan) {
-        Ok(initial) => Ok(Run { plan, initial }),
+        Ok(initial) => Ok(RunParts { plan, initial }),
         Err(error) => Err(error),
     }
 }
 
 /// Steps whole domains and writes their frames.
 #[tactic(auto, using(wf_model::proofs::StoreRunLaws::stopped_none))]
-fn step_run<S: Store>(alloc: Global, run: Run, store: &mut S) -> Result<Finished, CoreError>
+fn step_run<S: Store>(alloc: Global, run: RunParts, store: &mut S) -> Result<Finished, CoreError>
     requires { IsReady run.plan run.initial }
     ensures settled { OnOk result (point_at_end (outcome_of (run_from run.plan run.initial)) ≡ None) }
     ensures written { OnOk result (Ran (writes_of (run_from run.plan run.initial)) (S.files store.old) (S.files store.new)) }
@@ -71,7 +71,7 @@ fn step_run<S: Store>(alloc: Global, run: Run, store: &mut S) -> Result<Finished
 }
 
 /// Steps a run and says how it ended.
-fn end_run<S: Store, O: Sink>(alloc: Global, run: Run, store: &mut S, out: &mut O) -> u8
+fn end_run<S: Store, O: Sink>(alloc: Global, run: RunParts, store: &mut S, out: &mut O) -> u8
     requires { IsReady run.plan run.initial }
     ensures { CallsEnded (whole_answer (run_from run.plan run.initial)) (S.files store.old) (S.files store.new) (S.faults store.old) (S.faults store.new) (S.failed store.new)
         (λ status text. Said status text (O.taken out.old) (O.taken out.new) (O.faults out.old) (O.faults out.new) result) }

@@ -11,7 +11,7 @@ dimspec k 2 standard_domain z bottom_top
 dimspec j 3 standard_domain y south_north
 ";
 
-const FIELDS: &str = "\
+pub(crate) const FIELDS: &str = "\
 state integer a ij misc 1 - i0rhudf \"A\" \"\" \"\"
 state integer b ij misc 1 - rh \"B\" \"\" \"\"
 halo h4 misc 4:a,b
@@ -31,7 +31,7 @@ phase p writes b margin 2 1 = a[-1,0,0] + a[1,0,0]
 const SUMMARY: &str = "files 1 records 2 bytes 184 sum 2750\n";
 
 /// The base namelist with this run length in minutes, frames a file, and lines on the domain's size and its borders.
-fn namelist(
+pub(crate) fn namelist(
     alloc: Global,
     minutes: u32,
     frames: u32,
@@ -45,7 +45,7 @@ fn namelist(
 
 /// An input file of one variable of a name of one letter and of one record, written out from the format: a header of 380 bytes, and
 /// then `Times` and the numbers, row by row.
-fn input(
+pub(crate) fn input(
     alloc: Global,
     name: u8,
     columns: u32,
@@ -86,7 +86,7 @@ fn input(
 }
 
 /// The numbers `(37(i-1) + 53(j-1)) mod 100`.
-fn ramp(alloc: Global, columns: u32, rows: u32) -> Result<Vec<i32>, AllocError> {
+pub(crate) fn ramp(alloc: Global, columns: u32, rows: u32) -> Result<Vec<i32>, AllocError> {
     let mut values = Vec::new(alloc);
     for j in 0..rows.min(100) {
         for i in 0..columns.min(100) {
@@ -97,7 +97,7 @@ fn ramp(alloc: Global, columns: u32, rows: u32) -> Result<Vec<i32>, AllocError> 
 }
 
 /// A store of these texts, without an input file.
-fn store_of(
+pub(crate) fn store_of(
     alloc: Global,
     fields: &str,
     namelist: &str,
