@@ -3,3 +3,5 @@ pub mod LastByte
 pub mod LineEnds
 pub mod LogicalLines
 pub mod WordScan
+pub mod Suffixes
+pub mod NextLines

@@ -1,3 +1,4 @@
 pub mod TextError
 pub mod Physical
 pub mod Pending
+pub mod Rest

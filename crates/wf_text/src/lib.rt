@@ -16,7 +16,7 @@ pub use forms::{
     digits_up_to, is_dash, is_decimal, is_digits, is_false_word, is_number_within, is_true_word,
     is_whole_in_32, lower, upper, whole, whole_in_32,
 };
-pub use logical::{LinesRead, read_lines, read_until_fault};
+pub use logical::{LinesRead, NextLine, next_line, read_lines, read_until_fault};
 
 #[cfg(test)]
 mod tests;

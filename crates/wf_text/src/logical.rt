@@ -1,9 +1,10 @@
 //! Logical lines: physical lines joined where one goes on.
 
-ghost use Rattle.std.specs.Prelude.{◌≡◌, ◌+◌, ◌++◌, ◌∷◌, [], IfOk, IsSome, OnOk, Some, filter};
+ghost use Rattle.std.specs.Prelude.{◌≡◌, ◌+◌, ◌++◌, ◌∷◌, ◌<◌, ◌≤◌, [], IfErr, IfNone, IfOk, IfSome, IsSome, None, OnOk, Some, drop, filter, length};
 ghost use Rattle.wf_model.specs.Lines.{goes_on, has_words, last_is, last_of, line, lines_of, lines_read, shortened, without_backslash};
 ghost use Rattle.wf_model.specs.Reading.{Gives};
 ghost use Rattle.wf_text.specs.Pending.{first_of, unfinished, words_so_far};
+ghost use Rattle.wf_text.specs.Rest.{StopsAt, led, no_lines, rest_read};
 ghost use Rattle.wf_text.specs.TextError.{fault_of};
 
 use crate::error::TextError;
@@ -172,6 +173,68 @@ pub fn read_until_fault(alloc: Global, text: &str) -> Result<LinesRead, AllocErr
         rest = after;
     }
     Ok(finished(done, pending, number))
+}
+
+/// A logical line, the number of the physical line that it ends at, and how many bytes it takes with the lines without
+/// words before it.
+#[derive(Drop)]
+pub struct NextLine {
+    pub line: Line,
+    pub number: u32,
+    pub taken: usize,
+}
+
+/// That a text has no further line: a line that goes on where it ends, at the physical line with this number, is a fault.
+fn no_more(pending: Option<Pending>, number: u32) -> Result<Option<NextLine>, TextError>
+    ensures end { IfOk result (λ next. (next ≡ None) × (unfinished pending number ≡ None)) }
+    ensures fault { IfErr result (λ e. fault_of e ≡ unfinished pending number) }
+{
+    match pending {
+        None => Ok(None),
+        Some(_) => Err(TextError::DanglingBackslash { line: number }),
+    }
+}
+
+/// The first logical line of what follows so many physical lines of a text; none where no line follows.
+///
+/// The lines of a text can be read by this one after the other, with no more memory than one of them takes. It fails at
+/// the first fault of the text if no whole line stands before it.
+pub fn next_line(alloc: Global, text: &[u8], before: u32) -> Result<Option<NextLine>, TextError>
+    ensures line { IfOk result (λ next. IfSome next (λ n. rest_read before text.now ≡ led n.line (rest_read n.number (drop n.taken text.now)))) }
+    ensures bound { IfOk result (λ next. IfSome next (λ n. (0 < n.taken) × (n.taken ≤ length text.now))) }
+    ensures end { IfOk result (λ next. IfNone next (rest_read before text.now ≡ no_lines None)) }
+    ensures fault { IfErr result (λ e. StopsAt (rest_read before text.now) (fault_of e)) }
+{
+    let mut pending = None;
+    let mut number = before;
+    let mut rest = text;
+    while !rest.is_empty() {
+        let (line, after) = first_line(rest);
+        number = next_number(number)?;
+        let words = words_of(alloc, number, line)?;
+        rest = after;
+        if goes_on(&words) {
+            let words = without_backslash(alloc, words)?;
+            pending = Some(extended(pending, number, words)?);
+        } else {
+            let joined = extended(pending, number, words)?;
+            if !joined.words.is_empty() {
+                let words = List::from_vec(joined.words);
+                let line = Line {
+                    number: joined.number,
+                    words,
+                };
+                let taken = text.len() - rest.len();
+                return Ok(Some(NextLine {
+                    line,
+                    number,
+                    taken,
+                }));
+            }
+            pending = None;
+        }
+    }
+    no_more(pending, number)
 }
 
 /// The logical lines of a text, in order, or its first fault.

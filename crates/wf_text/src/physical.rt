@@ -1,6 +1,6 @@
 //! Physical lines: they end at a line feed, or where the text ends.
 
-ghost use Rattle.std.specs.Prelude.{◌≡◌, ◌≢◌, ◌+◌, ◌<◌, ◌≤◌, ◌∷◌, ℕ, length, MatchOption, slice_index};
+ghost use Rattle.std.specs.Prelude.{◌≡◌, ◌≢◌, ◌+◌, ◌-◌, ◌<◌, ◌≤◌, ◌∷◌, ℕ, drop, length, MatchOption, slice_index};
 ghost use Rattle.wf_model.specs.Lines.{physical};
 ghost use Rattle.wf_text.specs.Physical.{trimmed};
 
@@ -32,6 +32,7 @@ fn without_return(line: &[u8]) -> &[u8]
 pub fn first_line(text: &[u8]) -> (&[u8], &[u8])
     requires { 0 < length text.now }
     ensures line { physical text.now ≡ result.0.now ∷ physical result.1.now }
+    ensures after { result.1.now ≡ drop (length text.now - length result.1.now) text.now }
     ensures shorter { length result.1.now < length text.now }
     ensures within { length result.0.now + length result.1.now < length text.now + 1 }
 {

@@ -119,6 +119,41 @@ fn whole_lines_before_a_fault_are_handed_out(rt: HostRuntime) -> Result<(), Fail
     Ok(())
 }
 
+/// The lines as `written` shows them, each with the physical line that it ends at and its bytes, up to the first fault.
+fn one_by_one(rt: &HostRuntime, text: &str) -> Result<String, Fail> {
+    let mut out = String::new(rt.alloc());
+    let mut rest = text.as_bytes();
+    let mut number = 0;
+    for _ in 0..text.len() {
+        let Ok(Some(next)) = next_line(rt.alloc(), rest, number) else {
+            return Ok(out);
+        };
+        number = next.number;
+        let taken = next.taken;
+        let line = vec![in rt.alloc(); next.line]?;
+        out.push_str(written(rt, &line)?.as_str())?;
+        out.push_str(format!(in rt.alloc(); "{number}+{taken} ")?.as_str())?;
+        let (_, after) = rest.split_at(taken);
+        rest = after;
+    }
+    Ok(out)
+}
+
+#[test]
+fn lines_are_read_one_by_one(rt: HostRuntime) -> Result<(), Fail> {
+    assert_eq!(rt;
+        one_by_one(&rt, "a\n# b\n\nc \\\nd\ne \\\nf \"g\nh\n")?.as_str(),
+        "1: 1.a|1+2 4: 1.c 1.d|5+11 "
+    );
+    assert_eq!(rt; one_by_one(&rt, "a\nb \\\n")?.as_str(), "1: 1.a|1+2 ");
+    assert_eq!(rt; one_by_one(&rt, "")?.as_str(), "");
+    let end = next_line(rt.alloc(), b" # a", 3);
+    assert!(rt; matches!(end, Ok(None)));
+    let fault = next_line(rt.alloc(), b"a\\", 3);
+    assert!(rt; matches!(fault, Err(TextError::DanglingBackslash { line: 4 })));
+    Ok(())
+}
+
 fn repeated(rt: &HostRuntime, piece: &str, count: usize) -> Result<String, Fail> {
     let mut text = String::new(rt.alloc());
     for _ in 0..count {

@@ -9,6 +9,9 @@ use crate::error::TextError;
 use std::alloc::{AllocError, Global};
 use wf_model::{Bytes, Word};
 
+/// So many words a physical line of a Registry or namelist usually has at most: room for them is made at once.
+const USUAL_WORDS: usize = 16;
+
 fn is_blank(b: u8) -> bool
     ensures { result ≡ is_blank b }
 {
@@ -118,7 +121,7 @@ fn word_at(
 pub fn words_of(alloc: Global, number: u32, line: &[u8]) -> Result<Vec<Word>, TextError>
     ensures { Gives (λ v. v.items) fault_of result (words_from number 1 0 line.now) }
 {
-    let mut words = Vec::new(alloc);
+    let mut words = Vec::with_capacity(alloc, USUAL_WORDS)?;
     let mut at = 0;
     while at < line.len() {
         let first = line[at];

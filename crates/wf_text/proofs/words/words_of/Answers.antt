@@ -16,7 +16,7 @@ returns-then-first-eq35 c =
 
 pub returns-in_err-word : goal.returns-in_err-word
 returns-in_err-word c =
-    let p = err_from_is_err_and c.from_residual.result c.from_residual.ensures.1 in
+    let p = err_from_is_err_and c.from_residual-in_err-word.result c.from_residual-in_err-word.ensures.1 in
     rw (p.1, p.2) (word_fails (fault_of c.in_err-word.field-0.0) c.loop-at.words.items c.args.number c.loop-at.at c.args.line.now _ c.loop-at-test.true (sym c.is_blank.ensures ∙ c.if-is_blank.false) c.if-first-eq35.false (rw (sym c.split_at.ensures.back) c.in_err-word.ensures.word) c.loop-at.invariant.same)
 
 pub loop-at-preserved : goal.loop-at-preserved
