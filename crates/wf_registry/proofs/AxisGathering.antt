@@ -1,5 +1,5 @@
 -- Letters and axes, gathered line by line.
-use Rattle.std.proofs.Common.{◌≡◌, ◌∙◌, sym, ap, refl, ℕ, ◌+◌, ◌<◌, ◌≤◌, Bool, true, false, cond, List, [], ◌∷◌, ◌++◌, take, length, get_or, Option, Some, None, subst, arith, ◌⊎◌, inl, inr}
+use Rattle.std.proofs.Common.{◌≡◌, ◌∙◌, sym, ap, refl, ℕ, ◌+◌, ◌<◌, ◌≤◌, Bool, true, false, cond, List, [], ◌∷◌, ◌++◌, take, length, get_or, Option, Some, None, subst, arith}
 use Rattle.std.specs.Prelude.{◌||◌, nat_le, filter_map, is_some, if◌then◌else◌}
 use Rattle.std.specs.Option.{option_or, option_to_list}
 use Rattle.std.proofs.lemmas.List.{take_more, append-nil, length-map}
@@ -9,20 +9,20 @@ use Rattle.std.proofs.lemmas.Grind.{common_steps}
 use Rattle.std.proofs.lemmas.List.Folds.{find-append, list_any-append}
 use Rattle.wf_model.specs.declared.registry.Entry.{Entry}
 use Rattle.wf_model.specs.declared.registry.Entry.TheVariants.{Dimspec}
+use Rattle.wf_model.specs.declared.registry.SourceFile.{SourceFile}
 use Rattle.wf_model.specs.declared.text.Word.{Word}
 use Rattle.wf_model.specs.Letters.{Text}
 use Rattle.wf_model.specs.Entries.{Kind, dimspecs, states, rconfigs, packages, halos, periods, left_out, no_kind, axis, axis_of, is_entry, find_entry, entry_of_kind, least_columns, column, only_byte}
 use Rattle.wf_model.specs.Judging.{is_known}
 use Rattle.wf_registry_columns.specs.Axes.{HasAxesOf, bare_dimspec}
 use Rattle.wf_registry_columns.specs.Words.{word_texts}
-use Rattle.wf_registry_columns.specs.Kinds.{kind_seen}
-use Rattle.wf_registry_columns.specs.declared.kinds.LineKind.{LineKind}
-use Rattle.wf_registry_columns.specs.declared.kinds.LineKind.TheVariants as line
 use Rattle.wf_registry_columns.proofs.AxisLemmas.{is_some-find}
+use Rattle.wf_registry_lines.specs.Kept.{kept_in}
 use Rattle.wf_registry_lines.specs.declared.KeptLine.{KeptLine}
 use Rattle.wf_model.specs.KeptLines.{columns}
 use Rattle.wf_registry.specs.Lines.{word_kind}
 use Rattle.wf_registry.specs.LineEntries.{words_entry, lines_entries}
+use Rattle.wf_registry.proofs.DimspecKinds.{IsOtherKind}
 
 -- ---- entries put behind others
 
@@ -86,12 +86,8 @@ dimspec_line axes old cols enough h =
 no_letter : HasAxesOf [] []
 no_letter = record { known = λ c. refl; axes = λ c. refl }
 
--- no line of this kind has a letter
-abbrev pub kind_without : Kind → Type 0
-kind_without dimspecs = ⊥
-kind_without k = Unit {0}
-
-other_entry : (kind : Kind) (cols : List Text) (t : Bool) → kind_without kind → HasAxesOf [] (option_to_list (if t then entry_of_kind kind cols else None))
+-- a line of another kind has no letter
+other_entry : (kind : Kind) (cols : List Text) (t : Bool) → IsOtherKind kind → HasAxesOf [] (option_to_list (if t then entry_of_kind kind cols else None))
 other_entry kind cols false other = no_letter
 other_entry dimspecs cols true other = absurd other
 other_entry states cols true other = record { known = λ c. refl; axes = λ c. refl }
@@ -102,7 +98,7 @@ other_entry periods cols true other = record { known = λ c. refl; axes = λ c. 
 other_entry left_out cols true other = no_letter
 other_entry no_kind cols true other = no_letter
 
-pub other_line : (kind : Kind) (old : List Entry) (cols : List Text) → kind_without kind → HasAxesOf old (old ++ option_to_list (if nat_le (least_columns kind) (length cols) then entry_of_kind kind cols else None))
+pub other_line : (kind : Kind) (old : List Entry) (cols : List Text) → IsOtherKind kind → HasAxesOf old (old ++ option_to_list (if nat_le (least_columns kind) (length cols) then entry_of_kind kind cols else None))
 other_line kind old cols other = axes_nil old _ (other_entry kind cols (nat_le (least_columns kind) (length cols)) other)
 
 pub short_line : (old : List Entry) (cols : List Text) → nat_le 5 (length cols) ≡ false → HasAxesOf old (old ++ option_to_list (if nat_le 5 (length cols) then entry_of_kind dimspecs cols else None))
@@ -110,58 +106,36 @@ short_line old cols few = axes_nil old _ (subst (λ (t : Bool). HasAxesOf [] (op
 
 -- ---- a line of words
 
-pub dimspec_added : (axes old : List Entry) (words cols : List Text) (a b : ℕ) → dimspecs ≡ word_kind words → cols ≡ columns words → nat_le 5 (length cols) ≡ true
+pub dimspec_added : (axes old : List Entry) (words cols : List Text) (a b : ℕ) → word_kind words ≡ dimspecs → cols ≡ columns words → nat_le 5 (length cols) ≡ true
     → a ≡ only_byte (column cols 0) → b ≡ only_byte (column cols 3) → HasAxesOf axes (old ++ bare_dimspec a b ∷ []) → HasAxesOf axes (old ++ option_to_list (words_entry words))
 dimspec_added axes old words cols a b kind behind enough first third h =
-    subst (λ (k : Kind). HasAxesOf axes (old ++ option_to_list (if nat_le (least_columns k) (length (columns words)) then entry_of_kind k (columns words) else None))) kind
+    subst (λ (k : Kind). HasAxesOf axes (old ++ option_to_list (if nat_le (least_columns k) (length (columns words)) then entry_of_kind k (columns words) else None))) (sym kind)
     (subst (λ (cs : List Text). HasAxesOf axes (old ++ option_to_list (if nat_le 5 (length cs) then entry_of_kind dimspecs cs else None))) behind
     (dimspec_line axes old cols enough (subst (λ n. HasAxesOf axes (old ++ bare_dimspec n (only_byte (column cols 3)) ∷ [])) first (subst (λ n. HasAxesOf axes (old ++ bare_dimspec a n ∷ [])) third h))))
 
-pub short_added : (old : List Entry) (words cols : List Text) → dimspecs ≡ word_kind words → cols ≡ columns words → nat_le 5 (length cols) ≡ false → HasAxesOf old (old ++ option_to_list (words_entry words))
+pub short_added : (old : List Entry) (words cols : List Text) → word_kind words ≡ dimspecs → cols ≡ columns words → nat_le 5 (length cols) ≡ false → HasAxesOf old (old ++ option_to_list (words_entry words))
 short_added old words cols kind behind few =
-    subst (λ (k : Kind). HasAxesOf old (old ++ option_to_list (if nat_le (least_columns k) (length (columns words)) then entry_of_kind k (columns words) else None))) kind
+    subst (λ (k : Kind). HasAxesOf old (old ++ option_to_list (if nat_le (least_columns k) (length (columns words)) then entry_of_kind k (columns words) else None))) (sym kind)
     (subst (λ (cs : List Text). HasAxesOf old (old ++ option_to_list (if nat_le 5 (length cs) then entry_of_kind dimspecs cs else None))) behind (short_line old cols few))
 
-pub other_added : (kind : Kind) (old : List Entry) (words : List Text) → kind ≡ word_kind words → kind_without kind → HasAxesOf old (old ++ option_to_list (words_entry words))
-other_added kind old words is other =
-    subst (λ (k : Kind). HasAxesOf old (old ++ option_to_list (if nat_le (least_columns k) (length (columns words)) then entry_of_kind k (columns words) else None))) is
-    (other_line kind old (columns words) other)
-
--- none of the other kinds is a dimspec
-not_dimspec : (line.Dimspec ≡ line.State) ⊎ ((line.Dimspec ≡ line.Rconfig) ⊎ ((line.Dimspec ≡ line.Package) ⊎ ((line.Dimspec ≡ line.Halo) ⊎ ((line.Dimspec ≡ line.Period) ⊎ ((line.Dimspec ≡ line.LeftOut) ⊎ (line.Dimspec ≡ line.Unknown)))))) → ⊥
-not_dimspec (inl e) = cc
-not_dimspec (inr (inl e)) = cc
-not_dimspec (inr (inr (inl e))) = cc
-not_dimspec (inr (inr (inr (inl e)))) = cc
-not_dimspec (inr (inr (inr (inr (inl e))))) = cc
-not_dimspec (inr (inr (inr (inr (inr (inl e)))))) = cc
-not_dimspec (inr (inr (inr (inr (inr (inr e)))))) = cc
-
-pub other_kind : (k : LineKind) (old : List Entry) (words : List Text) → kind_seen k ≡ word_kind words
-    → (k ≡ line.State) ⊎ ((k ≡ line.Rconfig) ⊎ ((k ≡ line.Package) ⊎ ((k ≡ line.Halo) ⊎ ((k ≡ line.Period) ⊎ ((k ≡ line.LeftOut) ⊎ (k ≡ line.Unknown)))))) → HasAxesOf old (old ++ option_to_list (words_entry words))
-other_kind line.Dimspec old words e one = absurd (not_dimspec one)
-other_kind line.State old words e one = other_added states old words e tt
-other_kind line.Rconfig old words e one = other_added rconfigs old words e tt
-other_kind line.Package old words e one = other_added packages old words e tt
-other_kind line.Halo old words e one = other_added halos old words e tt
-other_kind line.Period old words e one = other_added periods old words e tt
-other_kind line.LeftOut old words e one = other_added left_out old words e tt
-other_kind line.Unknown old words e one = other_added no_kind old words e tt
+pub other_added : (old : List Entry) (words : List Text) → IsOtherKind (word_kind words) → HasAxesOf old (old ++ option_to_list (words_entry words))
+other_added old words other = other_line (word_kind words) old (columns words) other
 
 -- ---- one line more
 
 filter_map-one : {X Y : Type 0} (f : X → Option Y) (x : X) → filter_map f (x ∷ []) ≡ option_to_list (f x)
 filter_map-one f x = grind (arith, common_steps)
 
-pub axes_more : (old new : List Entry) (lines : List KeptLine) (i : ℕ) (l : KeptLine) → i < length lines → l ≡ get_or lines i l
-    → HasAxesOf old (lines_entries (take i lines)) → HasAxesOf new (old ++ option_to_list (words_entry (word_texts l.words))) → HasAxesOf new (lines_entries (take (i + 1) lines))
-axes_more old new lines i l here is so_far added =
-    let e : List Entry = option_to_list (words_entry (word_texts l.words)) in
-    let both : HasAxesOf new (lines_entries (take i lines) ++ e) = axes_chain new (old ++ e) _ added (axes_along old (lines_entries (take i lines)) e so_far) in
-    let same : lines_entries (take i lines) ++ e ≡ lines_entries (take (i + 1) lines) =
-    ap (λ xs. lines_entries (take i lines) ++ xs) (sym (filter_map-one (λ (x : KeptLine). words_entry (word_texts x.words)) l))
-    ∙ sym (filter_map-append (λ (x : KeptLine). words_entry (word_texts x.words)) (take i lines) (l ∷ []))
-    ∙ ap lines_entries (ap (λ x. take i lines ++ x ∷ []) is ∙ sym (take_more lines i l here)) in
+pub axes_more : (files : List SourceFile) (old new : List Entry) (lines : List KeptLine) (i : ℕ) (d : KeptLine) → i < length lines
+    → HasAxesOf old (lines_entries files (take i lines)) → HasAxesOf new (old ++ option_to_list (words_entry (kept_in files (get_or lines i d)).words)) → HasAxesOf new (lines_entries files (take (i + 1) lines))
+axes_more files old new lines i d here so_far added =
+    let entry : KeptLine → Option Entry = λ (l : KeptLine). words_entry (kept_in files l).words in
+    let e : List Entry = option_to_list (entry (get_or lines i d)) in
+    let both : HasAxesOf new (lines_entries files (take i lines) ++ e) = axes_chain new (old ++ e) _ added (axes_along old (lines_entries files (take i lines)) e so_far) in
+    let same : lines_entries files (take i lines) ++ e ≡ lines_entries files (take (i + 1) lines) =
+    ap (λ xs. lines_entries files (take i lines) ++ xs) (sym (filter_map-one entry (get_or lines i d)))
+    ∙ sym (filter_map-append entry (take i lines) (get_or lines i d ∷ []))
+    ∙ ap (lines_entries files) (sym (take_more lines i d here)) in
     subst (HasAxesOf new) same both
 
 pub few_columns : (words : List Word) → length words < 5 → nat_le 5 (length (word_texts words)) ≡ false

@@ -64,6 +64,14 @@ declares_is kind w (e ∷ es) =
 pub adds_none : (old : List Text) → Adds old old []
 adds_none old w = or-false (is_among w old)
 
+-- the names that were there before are the same words
+pub same_adds : (old between new added : List Text) → SameNames old between → Adds between new added → Adds old new added
+same_adds old between new added same adds w = adds w ∙ ap (λ t. t || is_among w added) (sym (same w))
+
+-- the names that there are afterwards are the same words
+pub adds_same : (old between new added : List Text) → Adds old between added → SameNames between new → Adds old new added
+adds_same old between new added adds same w = sym (same w) ∙ adds w
+
 or-assoc : (a b c : Bool) → ((a || (b || false)) || (c || false)) ≡ (a || (b || (c || false)))
 or-assoc true b c = refl
 or-assoc false true c = refl
@@ -73,17 +81,6 @@ or-assoc false false c = refl
 pub adds_two : (old between new : List Text) (a b : Text) → Adds old between (a ∷ []) → Adds between new (b ∷ []) → Adds old new (a ∷ b ∷ [])
 adds_two old between new a b first second w =
     second w ∙ ap (λ t. t || (bytes_eq w b || false)) (first w) ∙ or-assoc (is_among w old) (bytes_eq w a) (bytes_eq w b)
-
-or-push : (a b c : Bool) → ((a || b) || c) ≡ (a || (b || c))
-or-push true b c = refl
-or-push false b c = refl
-
--- one word more of several
-pub adds_more : (old between new : List Text) (words : List (Vec ℕ)) (word : Vec ℕ) → Adds old between (texts words) → Adds between new (word.items ∷ []) → Adds old new (texts (words ++ word ∷ []))
-adds_more old between new words word first second w =
-    second w ∙ ap (λ t. t || (bytes_eq w word.items || false)) (first w)
-    ∙ or-push (is_among w old) (is_among w (texts words)) (bytes_eq w word.items || false)
-    ∙ ap (λ t. is_among w old || t) (sym (list_any-append (bytes_eq w) (texts words) (word.items ∷ [])) ∙ ap (is_among w) (sym (texts-push words word)))
 
 -- an index of one entry more
 pub indexes_more : (f : Entry → List Text) (old new : List Text) (es : List Entry) (e : Entry) → SameNames old (flat_map f es) → Adds old new (f e) → SameNames new (flat_map f (es ++ e ∷ []))

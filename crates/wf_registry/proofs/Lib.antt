@@ -1,11 +1,13 @@
 pub mod AxisGathering
 pub mod BuiltInNames
+pub mod DimspecKinds
 pub mod IndexLemmas
 pub mod IntegerLemmas
 pub mod JudgedLemmas
 pub mod JudgedLoop
+pub mod LineReads
 pub mod NamesInLower
 pub mod Registries
 pub mod SameLetters
 pub mod Sharing
-pub mod LinePlaces
+pub mod WordLemmas

@@ -144,11 +144,11 @@ filter_map-map g f [] = refl
 filter_map-map g f (x ∷ xs) = filter_map-cons g (f x) (map f xs) ∙ ap (λ r. option_to_list (g (f x)) ++ r) (filter_map-map g f xs) ∙ sym (filter_map-cons (λ y. g (f y)) x xs)
 
 -- the letters that were gathered are those of the entries
-pub gathered : (all : List Entry) (files : List SourceFile) (lines : List KeptLine) → HasAxesOf all (lines_entries lines) → HasAxesOf all (entries_of (map (kept_in files) lines))
+pub gathered : (all : List Entry) (files : List SourceFile) (lines : List KeptLine) → HasAxesOf all (lines_entries files lines) → HasAxesOf all (entries_of (map (kept_in files) lines))
 unfolding entries_of
 gathered all files lines h = subst (HasAxesOf all) (sym (mapped lines)) h
   where
-    mapped : (xs : List KeptLine) → filter_map entry_of (map (kept_in files) xs) ≡ lines_entries xs
+    mapped : (xs : List KeptLine) → filter_map entry_of (map (kept_in files) xs) ≡ lines_entries files xs
     mapped xs = filter_map-map entry_of (kept_in files) xs
 
 -- ---- the answer, by what was read
@@ -156,7 +156,7 @@ gathered all files lines h = subst (HasAxesOf all) (sym (mapped lines)) h
 pub record IsRead (files : List SourceFile) (defines : Defines) (lines : List KeptLine) (end : Option RegistryFault) (all : List Entry) : Type 0 where
   pub lines_are : map (kept_in files) lines ≡ (met_of (registry_lines files defines)).kept
   pub end_is : end ≡ stop_of (registry_lines files defines)
-  pub letters : HasAxesOf all (lines_entries lines)
+  pub letters : HasAxesOf all (lines_entries files lines)
 
 module _ (files : List SourceFile) (defines : Defines) (lines : List KeptLine) (end : Option RegistryFault) (all : List Entry) (r : IsRead files defines lines end all) where
   refused_is : (f : RegistryFault) → refusal (map (kept_in files) lines) end ≡ Some f → registry_of files defines ≡ Err f

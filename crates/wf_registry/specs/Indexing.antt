@@ -3,6 +3,7 @@ use Rattle.std.specs.Prelude.{◌≡◌, ◌&&◌, not, List, [], ◌∷◌, fla
 use Rattle.wf_model.specs.declared.registry.Entry.{Entry}
 use Rattle.wf_model.specs.declared.registry.Entry.TheVariants.{Rconfig}
 use Rattle.wf_model.specs.Letters.{Text, is_among}
+use Rattle.wf_registry.specs.declared.indexing.Index.{Index}
 use Rattle.wf_model.specs.Entries.{Kind, dimspecs, rconfigs, packages, halos, periods, same_kind, entry_name, entry_datasets, entry_levels, entry_symbol, entry_variables, is_integer, is_integer_rconfig}
 
 -- the names of entries of a kind
@@ -18,15 +19,15 @@ integer_names rconfig_names e = []
 abbrev pub SameNames : List Text → List Text → Type 0
 SameNames names others = (w : Text) → is_among w names ≡ is_among w others
 
--- each index has what the entries declare
-pub record IsIndexed (es : List Entry) (letters rconfig_names integer_rconfigs package_names halo_names period_names symbol_words level_words variable_words dataset_words : List Text) : Type 0 where
-  pub dimspecs : SameNames letters (flat_map (names_of dimspecs) es)
-  pub rconfigs : SameNames rconfig_names (flat_map (names_of rconfigs) es)
-  pub integers : (w : Text) → is_among w integer_rconfigs ≡ is_integer_rconfig es w
-  pub packages : SameNames package_names (flat_map (names_of packages) es)
-  pub halos : SameNames halo_names (flat_map (names_of halos) es)
-  pub periods : SameNames period_names (flat_map (names_of periods) es)
-  pub symbols : SameNames symbol_words (flat_map entry_symbol es)
-  pub levels : SameNames level_words (flat_map entry_levels es)
-  pub variables : SameNames variable_words (flat_map entry_variables es)
-  pub datasets : SameNames dataset_words (flat_map entry_datasets es)
+-- the index has the names that the entries declare
+pub record IsIndexed (es : List Entry) (index : Index) : Type 0 where
+  pub dimspecs : SameNames index.kinds.dimspecs (flat_map (names_of dimspecs) es)
+  pub rconfigs : SameNames index.kinds.rconfigs (flat_map (names_of rconfigs) es)
+  pub integers : (w : Text) → is_among w index.kinds.integers ≡ is_integer_rconfig es w
+  pub packages : SameNames index.kinds.packages (flat_map (names_of packages) es)
+  pub halos : SameNames index.kinds.halos (flat_map (names_of halos) es)
+  pub periods : SameNames index.kinds.periods (flat_map (names_of periods) es)
+  pub symbols : SameNames index.fields.words.symbols (flat_map entry_symbol es)
+  pub levels : SameNames index.fields.words.levels (flat_map entry_levels es)
+  pub variables : SameNames index.fields.variables (flat_map entry_variables es)
+  pub datasets : SameNames index.fields.datasets (flat_map entry_datasets es)

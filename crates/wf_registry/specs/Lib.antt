@@ -1,10 +1,10 @@
 pub mod Adding
 pub mod Indexing
 pub mod FieldNames
+pub mod FieldWords
 pub mod Lines
 pub mod Judged
 pub mod LineEntries
 pub mod RegistryErrors
 pub mod Sorts
 pub mod Unknown
-pub mod Places

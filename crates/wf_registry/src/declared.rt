@@ -5,16 +5,16 @@ ghost use Rattle.wf_model.specs.Letters.{is_among};
 ghost use Rattle.wf_model.specs.Entries.{declares, dimspecs, rconfigs, packages, halos, periods, entry_datasets, entry_levels, entry_symbol, entry_variables, is_integer_rconfig};
 ghost use Rattle.wf_model.specs.Judging.{taken_names};
 
-use crate::indexing::{FieldIndex, KindIndex};
+use crate::indexing::Index;
 use std::alloc::{AllocError, Global};
 use std::marker::Model;
 use wf_model::Entry;
 
-/// Entries in order, with an index for each sort of name that they declare. Contracts see the list of the entries.
+/// Entries in order, with an index of the names that they declare. Contracts see the list of the entries.
 pub(crate) struct Declared {
     entries: Vec<Entry>,
-    kinds: KindIndex,
-    fields: FieldIndex,
+    /// Boxed, since each line's call moves the entries before it.
+    index: Box<Index>,
 }
 
 impl Model for Declared {
@@ -26,29 +26,26 @@ impl Model for Declared {
 
     ghost view = { λ it. it.entries.items };
 
-    ghost invariant = { λ it. IsIndexed it.entries.items it.kinds.dimspecs it.kinds.rconfigs it.kinds.integers it.kinds.packages it.kinds.halos it.kinds.periods it.fields.symbols it.fields.levels it.fields.variables it.fields.datasets };
+    ghost invariant = { λ it. IsIndexed it.entries.items it.index.value };
 }
 
 impl Drop for Declared {
     fn drop(self) {
         let Declared {
             entries: _entries,
-            kinds: _kinds,
-            fields: _fields,
+            index: _index,
         } = self;
     }
 }
 
 impl Declared {
-    /// No entry.
-    pub(crate) fn new(alloc: Global) -> Declared
-        ensures { result ≡ [] }
+    /// No entry, with room for this many.
+    pub(crate) fn with_capacity(alloc: Global, count: usize) -> Result<Declared, AllocError>
+        ensures { IfOk result (λ d. d ≡ []) }
     {
-        Declared {
-            entries: Vec::new(alloc),
-            kinds: KindIndex::new(alloc),
-            fields: FieldIndex::new(alloc),
-        }
+        let entries = Vec::with_capacity(alloc, count)?;
+        let index = Box::new(alloc, Index::new(alloc))?;
+        Ok(Declared { entries, index })
     }
 
     /// The entries, and one more behind them.
@@ -57,17 +54,11 @@ impl Declared {
     {
         let Declared {
             mut entries,
-            mut kinds,
-            mut fields,
+            mut index,
         } = self;
-        kinds.add(alloc, &entry)?;
-        fields.add(alloc, &entry)?;
+        index.add(alloc, &entry)?;
         entries.push(entry)?;
-        Ok(Declared {
-            entries,
-            kinds,
-            fields,
-        })
+        Ok(Declared { entries, index })
     }
 
     /// The entries, in order.
@@ -83,8 +74,7 @@ impl Declared {
     {
         let Declared {
             entries,
-            kinds: _kinds,
-            fields: _fields,
+            index: _index,
         } = self;
         entries
     }
@@ -94,7 +84,7 @@ impl Declared {
     pub(crate) fn has_dimspec(&self, letter: &[u8]) -> bool
         ensures { result ≡ declares dimspecs letter.now self.now }
     {
-        self.kinds.dimspecs.contains(letter)
+        self.index.kinds.dimspecs.contains(letter)
     }
 
     /// Whether an rconfig has this name.
@@ -102,14 +92,14 @@ impl Declared {
     pub(crate) fn has_rconfig(&self, name: &[u8]) -> bool
         ensures { result ≡ declares rconfigs name.now self.now }
     {
-        self.kinds.rconfigs.contains(name)
+        self.index.kinds.rconfigs.contains(name)
     }
 
     /// Whether the first rconfig of this name is of type integer.
     pub(crate) fn has_integer_rconfig(&self, name: &[u8]) -> bool
         ensures { result ≡ is_integer_rconfig self.now name.now }
     {
-        self.kinds.integers.contains(name)
+        self.index.kinds.integers.contains(name)
     }
 
     /// Whether a package has this name.
@@ -117,7 +107,7 @@ impl Declared {
     pub(crate) fn has_package(&self, name: &[u8]) -> bool
         ensures { result ≡ declares packages name.now self.now }
     {
-        self.kinds.packages.contains(name)
+        self.index.kinds.packages.contains(name)
     }
 
     /// Whether a halo has this name.
@@ -125,7 +115,7 @@ impl Declared {
     pub(crate) fn has_halo(&self, name: &[u8]) -> bool
         ensures { result ≡ declares halos name.now self.now }
     {
-        self.kinds.halos.contains(name)
+        self.index.kinds.halos.contains(name)
     }
 
     /// Whether a period has this name.
@@ -133,21 +123,21 @@ impl Declared {
     pub(crate) fn has_period(&self, name: &[u8]) -> bool
         ensures { result ≡ declares periods name.now self.now }
     {
-        self.kinds.periods.contains(name)
+        self.index.kinds.periods.contains(name)
     }
 
     /// Whether a field has this symbol.
     pub(crate) fn has_symbol(&self, word: &[u8]) -> bool
         ensures { result ≡ is_among word.now (flat_map entry_symbol self.now) }
     {
-        self.fields.symbols.contains(word)
+        self.index.fields.words.has_symbol(word)
     }
 
     /// Whether a level of a field has this name.
     pub(crate) fn has_level(&self, word: &[u8]) -> bool
         ensures { result ≡ is_among word.now (flat_map entry_levels self.now) }
     {
-        self.fields.levels.contains(word)
+        self.index.fields.words.has_level(word)
     }
 
     /// Whether a symbol, or the name of a level, is this word.
@@ -155,20 +145,20 @@ impl Declared {
     pub(crate) fn has_name(&self, word: &[u8]) -> bool
         ensures { result ≡ is_among word.now (taken_names self.now) }
     {
-        self.has_symbol(word) || self.has_level(word)
+        self.index.fields.words.has_name(word)
     }
 
     /// Whether an integer field has this name in files.
     pub(crate) fn has_variable(&self, word: &[u8]) -> bool
         ensures { result ≡ is_among word.now (flat_map entry_variables self.now) }
     {
-        self.fields.variables.contains(word)
+        self.index.fields.variables.contains(word)
     }
 
     /// Whether a dimension has this name in files.
     pub(crate) fn has_dataset(&self, word: &[u8]) -> bool
         ensures { result ≡ is_among word.now (flat_map entry_datasets self.now) }
     {
-        self.fields.datasets.contains(word)
+        self.index.fields.datasets.contains(word)
     }
 }

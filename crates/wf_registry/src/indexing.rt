@@ -1,14 +1,44 @@
 //! What an entry declares, added to the index of its sort.
 
-ghost use Rattle.std.specs.Prelude.{◌≡◌, [], OnOk};
+ghost use Rattle.std.specs.Prelude.{◌≡◌, ◌++◌, ◌∷◌, [], OnOk, List as Items};
+ghost use Rattle.wf_model.specs.declared.registry.Entry.{Entry};
 ghost use Rattle.wf_model.specs.Entries.{dimspecs, rconfigs, packages, halos, periods, entry_datasets, entry_levels, entry_symbol, entry_variables};
 ghost use Rattle.wf_registry.specs.Adding.{Adds};
-ghost use Rattle.wf_registry.specs.Indexing.{integer_names, names_of};
+ghost use Rattle.wf_registry.specs.Indexing.{IsIndexed, integer_names, names_of};
 
+use crate::field_words::FieldWords;
 use crate::names::Names;
 use std::alloc::{AllocError, Global};
 use wf_model::Entry;
 use wf_registry_columns::{is_integer, level_names, staggered, variables_of};
+
+/// The names that entries declare.
+#[derive(Drop)]
+pub(crate) struct Index {
+    pub(crate) kinds: KindIndex,
+    pub(crate) fields: FieldIndex,
+}
+
+impl Index {
+    /// Of no entry.
+    pub(crate) fn new(alloc: Global) -> Index
+        ensures { IsIndexed [] result }
+    {
+        Index {
+            kinds: KindIndex::new(alloc),
+            fields: FieldIndex::new(alloc),
+        }
+    }
+
+    /// Adds what an entry declares.
+    pub(crate) fn add(&mut self, alloc: Global, entry: &Entry) -> Result<(), AllocError>
+        ensures { OnOk result ((es : Items Entry) → IsIndexed es self.old → IsIndexed (es ++ entry.now ∷ []) self.new) }
+    {
+        self.kinds.add(alloc, entry)?;
+        self.fields.add(alloc, entry)?;
+        Ok(())
+    }
+}
 
 /// Names of entries, by their kinds.
 #[derive(Drop)]
@@ -60,10 +90,8 @@ impl KindIndex {
 /// Names of fields and dimensions.
 #[derive(Drop)]
 pub(crate) struct FieldIndex {
-    /// Symbols of fields.
-    pub(crate) symbols: Names,
-    /// Names of the levels of fields.
-    pub(crate) levels: Names,
+    /// Symbols of fields, and names of their levels.
+    pub(crate) words: FieldWords,
     /// Names of integer fields in files.
     pub(crate) variables: Names,
     /// Names of dimensions in files.
@@ -72,11 +100,11 @@ pub(crate) struct FieldIndex {
 
 impl FieldIndex {
     pub(crate) fn new(alloc: Global) -> FieldIndex
-        ensures { (result.symbols ≡ []) × (result.levels ≡ []) × (result.variables ≡ []) × (result.datasets ≡ []) }
+        ensures words { (result.words.symbols ≡ []) × (result.words.levels ≡ []) }
+        ensures names { (result.variables ≡ []) × (result.datasets ≡ []) }
     {
         FieldIndex {
-            symbols: Names::new(alloc),
-            levels: Names::new(alloc),
+            words: FieldWords::new(alloc),
             variables: Names::new(alloc),
             datasets: Names::new(alloc),
         }
@@ -84,13 +112,12 @@ impl FieldIndex {
 
     /// Adds the names of a field or a dimension that an entry declares.
     pub(crate) fn add(&mut self, alloc: Global, entry: &Entry) -> Result<(), AllocError>
-        ensures symbols { OnOk result (Adds self.old.symbols self.new.symbols (entry_symbol entry.now)) }
-        ensures levels { OnOk result (Adds self.old.levels self.new.levels (entry_levels entry.now)) }
+        ensures symbols { OnOk result (Adds self.old.words.symbols self.new.words.symbols (entry_symbol entry.now)) }
+        ensures levels { OnOk result (Adds self.old.words.levels self.new.words.levels (entry_levels entry.now)) }
         ensures variables { OnOk result (Adds self.old.variables self.new.variables (entry_variables entry.now)) }
         ensures datasets { OnOk result (Adds self.old.datasets self.new.datasets (entry_datasets entry.now)) }
     {
-        add_symbol(alloc, &mut self.symbols, entry)?;
-        add_levels(alloc, &mut self.levels, entry)?;
+        add_words(alloc, &mut self.words, entry)?;
         add_variables(alloc, &mut self.variables, entry)?;
         add_datasets(alloc, &mut self.datasets, entry)?;
         Ok(())
@@ -173,26 +200,18 @@ fn add_integer(
     }
 }
 
-/// Adds the symbol of a field.
-#[tactic(auto, using(crate::proofs::IndexLemmas::adds_none))]
-fn add_symbol(alloc: Global, names: &mut Names, entry: &Entry) -> Result<(), AllocError>
-    ensures { OnOk result (Adds names.old names.new (entry_symbol entry.now)) }
-{
-    match entry {
-        Entry::State { symbol, .. } => names.add_word(alloc, symbol.as_slice()),
-        _ => Ok(()),
-    }
-}
-
-/// Adds the names of the levels of a field.
-#[tactic(auto, using(crate::proofs::IndexLemmas::adds_none))]
-fn add_levels(alloc: Global, names: &mut Names, entry: &Entry) -> Result<(), AllocError>
-    ensures { OnOk result (Adds names.old names.new (entry_levels entry.now)) }
+/// Adds the symbol of a field and the names of its levels.
+#[tactic(auto, using(crate::proofs::IndexLemmas::adds_none, crate::proofs::IndexLemmas::adds_same, crate::proofs::IndexLemmas::same_adds))]
+fn add_words(alloc: Global, words: &mut FieldWords, entry: &Entry) -> Result<(), AllocError>
+    ensures symbols { OnOk result (Adds words.old.symbols words.new.symbols (entry_symbol entry.now)) }
+    ensures levels { OnOk result (Adds words.old.levels words.new.levels (entry_levels entry.now)) }
 {
     match entry {
         Entry::State { symbol, levels, .. } => {
-            let words = level_names(alloc, symbol.as_slice(), levels.as_slice())?;
-            names.add_all(words)
+            let names = level_names(alloc, symbol.as_slice(), levels.as_slice())?;
+            words.add_symbol(alloc, symbol.as_slice())?;
+            words.add_levels(names)?;
+            Ok(())
         }
         _ => Ok(()),
     }

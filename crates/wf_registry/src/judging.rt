@@ -3,11 +3,10 @@
 ghost use Rattle.std.specs.Prelude.{◌≡◌, ◌<◌, [], IfOk, length, map};
 ghost use Rattle.std.specs.List.{All};
 ghost use Rattle.wf_model.specs.Reading.{Gives};
+ghost use Rattle.wf_model.specs.Registry.{fault_at};
 ghost use Rattle.wf_registry_columns.specs.Words.{word_texts};
-ghost use Rattle.wf_registry_lines.specs.Kept.{kept_in};
-ghost use Rattle.wf_registry_lines.specs.declared.KeptLine.{KeptLine};
+ghost use Rattle.wf_registry_lines.specs.Kept.{IsThere, kept_in};
 ghost use Rattle.wf_registry.specs.Judged.{TellsAt, lines_judged, words_judged};
-ghost use Rattle.wf_registry.specs.Places.{fault_of_place, place_of};
 ghost use Rattle.wf_registry.specs.RegistryErrors.{fault_of, rule_of};
 
 use crate::declared::Declared;
@@ -16,36 +15,22 @@ use crate::line::line_entry;
 use std::alloc::{AllocError, Global};
 use wf_model::{Bytes, RegistryFault, RegistryKind, SourceFile, Word};
 use wf_registry_columns::Axes;
-use wf_registry_lines::KeptLine;
+use wf_registry_lines::{KeptLine, words_at};
 
-/// Where a line stands: the place, from 0, of its file among the files that are read, and its number there, from 1.
-#[derive(Clone, Copy)]
-pub(crate) struct LinePlace {
-    file: usize,
-    number: u32,
-}
-
-/// The entries of all lines, and where each of these lines stands.
-#[derive(Drop)]
-pub(crate) struct JudgedLines {
-    pub(crate) declared: Declared,
-    pub(crate) places: Vec<LinePlace>,
-}
-
-/// What is wrong at a place, with its file's name.
+/// What is wrong at a line, with its file's name.
 pub(crate) fn fault_at(
     alloc: Global,
     files: &[SourceFile],
-    place: LinePlace,
+    line: &KeptLine,
     kind: RegistryKind,
 ) -> Result<RegistryFault, AllocError>
-    requires { place.file < length files.now }
-    ensures { IfOk result (λ f. f ≡ fault_of_place files.now place kind) }
+    requires { line.now.file < length files.now }
+    ensures { IfOk result (λ f. f ≡ fault_at (kept_in files.now line.now) kind) }
 {
-    let file = Bytes::from_vec(Vec::from_slice(alloc, files[place.file].name.as_slice())?);
+    let file = Bytes::from_vec(Vec::from_slice(alloc, files[line.file].name.as_slice())?);
     Ok(RegistryFault {
         file,
-        line: place.number,
+        line: line.number,
         kind,
     })
 }
@@ -64,46 +49,38 @@ fn with_words(
     Ok(after)
 }
 
-/// Why a line at this place has no entry, with its file's name.
-fn located(alloc: Global, files: &[SourceFile], place: LinePlace, error: LineError) -> RegistryError
-    requires { place.file < length files.now }
-    ensures { (l : KeptLine) → place_of l ≡ place → TellsAt (kept_in files.now l) (rule_of error) (fault_of result) }
+/// Why a line has no entry, with its file's name.
+fn located(alloc: Global, files: &[SourceFile], line: &KeptLine, error: LineError) -> RegistryError
+    requires { line.now.file < length files.now }
+    ensures { TellsAt (kept_in files.now line.now) (rule_of error) (fault_of result) }
 {
     match error {
         LineError::Memory => RegistryError::Memory,
-        LineError::Rule(kind) => match fault_at(alloc, files, place, kind) {
+        LineError::Rule(kind) => match fault_at(alloc, files, line, kind) {
             Ok(fault) => RegistryError::Fault(fault),
             Err(_) => RegistryError::Memory,
         },
     }
 }
 
-/// The entries of the lines, in order, or the first line that breaks a rule. The words of each line are given back as it
-/// is judged.
+/// The entries of the lines, in order, or the first line that breaks a rule. The words of each line are read as it is
+/// judged, and given back then.
 pub(crate) fn lines_judged(
     alloc: Global,
     files: &[SourceFile],
     all: &Axes,
-    lines: Vec<KeptLine>,
-) -> Result<JudgedLines, RegistryError>
-    requires { All (λ l. l.file < length files.now) lines.items }
-    ensures entries { Gives (λ j. j.declared) fault_of result (lines_judged all.now [] (map (kept_in files.now) lines.items)) }
-    ensures places { IfOk result (λ j. j.places.items ≡ map place_of lines.items) }
+    lines: &[KeptLine],
+) -> Result<Declared, RegistryError>
+    requires { All (IsThere files.now) lines.now }
+    ensures { Gives (λ d. d) fault_of result (lines_judged all.now [] (map (kept_in files.now) lines.now)) }
 {
-    let mut declared = Declared::new(alloc);
-    let mut places = Vec::new(alloc);
+    let mut declared = Declared::with_capacity(alloc, lines.len())?;
     for line in lines {
-        let place = LinePlace {
-            file: line.file,
-            number: line.number,
-        };
-        match with_words(alloc, all, declared, line.words.as_slice()) {
+        let words = words_at(alloc, files, line)?;
+        match with_words(alloc, all, declared, words.as_slice()) {
             Ok(after) => declared = after,
-            Err(error) => return Err(located(alloc, files, place, error)),
-        }
-        if places.push(place).is_err() {
-            return Err(RegistryError::Memory);
+            Err(error) => return Err(located(alloc, files, line, error)),
         }
     }
-    Ok(JudgedLines { declared, places })
+    Ok(declared)
 }

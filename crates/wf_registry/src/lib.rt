@@ -10,6 +10,7 @@ mod declared;
 mod dimspec;
 mod error;
 mod exchange;
+mod field_words;
 mod indexing;
 mod judging;
 mod line;

@@ -4,31 +4,31 @@ ghost use Rattle.std.specs.Prelude.{◌≡◌, ◌<◌, IfOk, length, slice_inde
 ghost use Rattle.std.specs.List.{All};
 ghost use Rattle.wf_model.specs.declared.registry.RegistryKind.TheVariants.{UnknownName};
 ghost use Rattle.wf_model.specs.Reading.{Gives};
-ghost use Rattle.wf_model.specs.Registry.{registry_of};
-ghost use Rattle.wf_registry.specs.declared.judging.LinePlace.{LinePlace};
-ghost use Rattle.wf_registry.specs.Places.{fault_of_place};
+ghost use Rattle.wf_model.specs.Registry.{fault_at, registry_of};
+ghost use Rattle.wf_registry_lines.specs.Kept.{IsThere, kept_in};
+ghost use Rattle.wf_registry_lines.specs.declared.KeptLine.{KeptLine};
 ghost use Rattle.wf_registry.specs.RegistryErrors.{fault_of};
 
 use crate::axes::axes_of;
 use crate::error::RegistryError;
-use crate::judging::{JudgedLines, LinePlace, fault_at, lines_judged};
+use crate::judging::{fault_at, lines_judged};
 use crate::unknown::unknown_at;
 use std::alloc::{AllocError, Global};
 use wf_model::{List, Name, Registry, RegistryFault, RegistryKind, SourceFile};
-use wf_registry_lines::{KeptLines, kept_lines};
+use wf_registry_lines::{KeptLine, KeptLines, kept_lines};
 
 /// That the line at this place uses a name that nothing declares.
 fn unknown_name(
     alloc: Global,
     files: &[SourceFile],
-    places: &[LinePlace],
+    lines: &[KeptLine],
     at: usize,
 ) -> Result<RegistryFault, AllocError>
-    requires place { at < length places.now }
-    requires files { All (λ p. p.file < length files.now) places.now }
-    ensures { IfOk result (λ f. (d : LinePlace) → f ≡ fault_of_place files.now (slice_index_or places.now at d) UnknownName) }
+    requires place { at < length lines.now }
+    requires there { All (IsThere files.now) lines.now }
+    ensures { IfOk result (λ f. (d : KeptLine) → f ≡ fault_at (kept_in files.now (slice_index_or lines.now at d)) UnknownName) }
 {
-    fault_at(alloc, files, places[at], RegistryKind::UnknownName)
+    fault_at(alloc, files, &lines[at], RegistryKind::UnknownName)
 }
 
 /// The Registry of these files, read from the file named `Registry`, where names are defined with these values.
@@ -44,14 +44,14 @@ pub fn read_registry(
     ensures { Gives (λ r. r) fault_of result (registry_of files.now defines.now) }
 {
     let KeptLines { lines, fault } = kept_lines(alloc, files, defines)?;
-    let all = axes_of(alloc, &lines)?;
-    let JudgedLines { declared, places } = lines_judged(alloc, files, &all, lines)?;
+    let all = axes_of(alloc, files, &lines)?;
+    let declared = lines_judged(alloc, files, &all, &lines)?;
     if let Some(fault) = fault {
         return Err(RegistryError::Fault(fault));
     }
     match unknown_at(alloc, &declared)? {
         Some(at) => {
-            let fault = unknown_name(alloc, files, &places, at)?;
+            let fault = unknown_name(alloc, files, &lines, at)?;
             Err(RegistryError::Fault(fault))
         }
         None => Ok(Registry {

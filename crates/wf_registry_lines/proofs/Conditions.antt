@@ -6,11 +6,10 @@ use Rattle.wf_model.specs.declared.registry.RegistryKind.TheVariants.{Columns, U
 use Rattle.wf_model.specs.Letters.{Text}
 use Rattle.wf_model.specs.Reading.{◌>>=◌}
 use Rattle.wf_model.specs.KeptLines.{Defines, Includes, Met, Stop, Within, after_condition, columns, condition, first_column, holds, is_condition, is_kind, kind_word, most_lines, one_line, stop, texts}
-use Rattle.wf_registry_lines.specs.Ahead.{entered_met, next_met}
+use Rattle.wf_registry_lines.specs.Ahead.{Marked, entered_met, next_met}
 use Rattle.wf_registry_lines.specs.Conditions.{condition_kind, deeper_kind, judged}
 use Rattle.wf_registry_lines.specs.Kinds.{kind_of}
 use Rattle.wf_registry_lines.specs.Met.{within_in}
-use Rattle.wf_registry_lines.specs.declared.ahead.AheadLine.{AheadLine}
 use Rattle.wf_registry_lines.specs.declared.condition.Conditions.{Conditions}
 use Rattle.wf_registry_lines.specs.declared.kind.Kind.TheVariants as kinds
 
@@ -40,20 +39,21 @@ module _ (defines : Defines) (met : Met) (file : Text) (n : ℕ) (c : Conditions
   nested_read column false false = refl
 
 -- the first word is `ifdef`
-is_ifdef : (a b d : Bool) → cond a kinds.Ifdef (cond b kinds.Endif (cond d kinds.Include kinds.Other)) ≡ kinds.Ifdef → a ≡ true
-is_ifdef true b d e = refl
-is_ifdef false true d e = absurd cc
-is_ifdef false false true e = absurd cc
-is_ifdef false false false e = absurd cc
+is_ifdef : (a b d e : Bool) → cond a kinds.Ifdef (cond b kinds.Endif (cond d kinds.Include (cond e kinds.Dimspec kinds.Other))) ≡ kinds.Ifdef → a ≡ true
+is_ifdef true b d e h = refl
+is_ifdef false true d e h = absurd cc
+is_ifdef false false true e h = absurd cc
+is_ifdef false false false true h = absurd cc
+is_ifdef false false false false h = absurd cc
 
 few : (most n : ℕ) → n < most → nat_le most n ≡ false
 few most n lt = grind (arith, nat_tests)
 
 -- an ifdef is the next line
-pub ifdef_read : (defines : Defines) (include : Includes) (file : Text) (met : Met) (c : Conditions) (a : AheadLine)
+pub ifdef_read : (defines : Defines) (include : Includes) (file : Text) (met : Met) (c : Conditions) (a : Marked)
     → met.lines < most_lines → kind_of (kind_word (texts a.line)) ≡ kinds.Ifdef
     → next_met defines include file met (within_in c) a ≡ entered_met (one_line met) file a.line.number (deeper_kind defines a.line a.closed c)
 ifdef_read defines include file met c a lt is =
     let few_lines : nat_le most_lines met.lines ≡ false = few most_lines met.lines lt in
-    let ifdef : is_kind (codes "ifdef") a.line ≡ true = is_ifdef (is_kind (codes "ifdef") a.line) (is_kind (codes "endif") a.line) (is_kind (codes "include") a.line) is in
+    let ifdef : is_kind (codes "ifdef") a.line ≡ true = is_ifdef (is_kind (codes "ifdef") a.line) (is_kind (codes "endif") a.line) (is_kind (codes "include") a.line) (is_kind (codes "dimspec") a.line) is in
     rw (few_lines, ifdef) (nested_read defines (one_line met) file a.line.number c (first_column (columns (texts a.line))) (not (c.dropping == 0)) a.closed)

@@ -5,3 +5,5 @@ pub mod LinesAhead
 pub mod FileLines
 pub mod Conditions
 pub mod Includes
+pub mod LinesHeld
+pub mod Held

@@ -1,17 +1,16 @@
 -- The first place in a list where a test passes.
-use Rattle.std.proofs.Common.{◌≡◌, ℕ, ◌+◌, ◌-◌, ◌<◌, ◌≤◌, Bool, true, false, cond, List, [], length, get_or, take, drop, map, Some, None, refl, sym, ap, ◌∙◌, arith, add-one, drop-cons, length-drop}
+use Rattle.std.proofs.Common.{◌≡◌, ℕ, ◌+◌, ◌-◌, ◌<◌, ◌≤◌, Bool, true, false, List, [], length, get_or, take, drop, map, Some, None, refl, sym, ap, ◌∙◌, arith, add-one, drop-cons, length-drop}
 use Rattle.std.proofs.Math.ListN.{drop_of_length-le}
 use Rattle.std.proofs.lemmas.List.{take_all}
 use Rattle.std.proofs.lemmas.List.Folds.{find_at}
 use Rattle.std.proofs.lemmas.Option.{slice_get_past, slice_get_read}
-use Rattle.std.specs.Prelude.{◌||◌, find, position, slice_get, nat_lt}
+use Rattle.std.specs.Prelude.{◌||◌, find, position, slice_get}
 use Rattle.std.specs.List.{position_or_len, before_first, after_first}
-use Rattle.std.proofs.lemmas.Bool.Decides.{nat_tests}
 use Rattle.std.specs.Str.{bytes_eq}
 use Rattle.wf_model.proofs.FirstPlaces.{found, not_found}
 use Rattle.wf_model.specs.declared.registry.SourceFile.{SourceFile}
 use Rattle.wf_model.specs.Letters.{Text, is_among}
-use Rattle.wf_registry_lines.specs.Kept.{name_at, name_of}
+use Rattle.wf_registry_lines.specs.Kept.{name_at, name_of, text_at, text_of}
 
 none_before_end : {X : Type 0} (p : X → Bool) (xs : List X) → position p xs ≡ None → length xs ≤ position_or_len p xs
 none_before_end p xs e = let is = not_found p xs e in omega (arith, is)
@@ -78,3 +77,7 @@ file_here files k f lt is = slice_get_read files (length files) k f refl lt is
 pub name_here : (files : List SourceFile) (k : ℕ) (f : SourceFile) (name : Text) → k < length files → f ≡ get_or files k f → name ≡ (get_or files k f).name
     → name_at files k ≡ name
 name_here files k f name lt is e = ap name_of (file_here files k f lt is) ∙ ap (λ (g : SourceFile). g.name) is ∙ sym e
+
+pub text_here : (files : List SourceFile) (k : ℕ) (f : SourceFile) (text : Text) → k < length files → f ≡ get_or files k f → text ≡ (get_or files k f).text
+    → text_at files k ≡ text
+text_here files k f text lt is e = ap text_of (file_here files k f lt is) ∙ ap (λ (g : SourceFile). g.text) is ∙ sym e

@@ -1,5 +1,5 @@
 -- What was read so far, as the definitions see it.
-use Rattle.std.specs.Prelude.{◌≡◌, ◌<◌, ℕ, List, Option, Some, None, map}
+use Rattle.std.specs.Prelude.{◌≡◌, ℕ, List, Option, Some, None, map}
 use Rattle.std.specs.List.{All}
 use Rattle.wf_model.specs.declared.registry.SourceFile.{SourceFile}
 use Rattle.wf_model.specs.declared.registry.RegistryKind.{RegistryKind}
@@ -9,7 +9,7 @@ use Rattle.wf_registry_lines.specs.declared.condition.Conditions.{Conditions}
 use Rattle.wf_registry_lines.specs.declared.progress.Progress.{Progress}
 use Rattle.wf_registry_lines.specs.declared.progress.ReadingError.{ReadingError}
 use Rattle.wf_registry_lines.specs.declared.progress.ReadingError.TheVariants.{Memory, Stopped}
-use Rattle.wf_registry_lines.specs.Kept.{kept_in, name_at}
+use Rattle.wf_registry_lines.specs.Kept.{IsPlaced, kept_in, name_at}
 
 abbrev pub met_in : List SourceFile → Progress → Met
 met_in files p = record { kept = map (kept_in files) p.kept.items; lines = p.lines; files = p.files }
@@ -32,14 +32,14 @@ abbrev pub IsStop : Progress → Text → ℕ → RegistryKind → ReadingError 
 IsStop p file line kind Memory = Unit {0}
 IsStop p file line kind (Stopped s) = s ≡ record { progress = p; fault = record { file = file; line = line; kind = kind } }
 
--- each line that counts is one of so many files
-abbrev pub ArePlaced : ℕ → Progress → Type 0
-ArePlaced n p = All (λ l. l.file < n) p.kept.items
+-- each line that counts is one of these files
+abbrev pub ArePlaced : List SourceFile → Progress → Type 0
+ArePlaced files p = All (IsPlaced files) p.kept.items
 
 -- the same of those that were read when reading stops
-abbrev pub AreLeftPlaced : ℕ → ReadingError → Type 0
-AreLeftPlaced n Memory = Unit {0}
-AreLeftPlaced n (Stopped s) = ArePlaced n s.progress
+abbrev pub AreLeftPlaced : List SourceFile → ReadingError → Type 0
+AreLeftPlaced files Memory = Unit {0}
+AreLeftPlaced files (Stopped s) = ArePlaced files s.progress
 
 -- how a file is read where those at these places are being read
 abbrev pub includes_at : ℕ → List SourceFile → Defines → List ℕ → Includes

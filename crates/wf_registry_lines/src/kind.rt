@@ -4,7 +4,7 @@ ghost use Rattle.std.specs.Prelude.{◌≡◌, MatchOption, None, Some};
 ghost use Rattle.std.specs.Str.{bytes_eq};
 ghost use Rattle.wf_model.specs.KeptLines.{columns, first_column, kind_word, texts};
 ghost use Rattle.wf_model.specs.Letters.{lower};
-ghost use Rattle.wf_registry_lines.specs.Kinds.{kind_of};
+ghost use Rattle.wf_registry_lines.specs.Kinds.{is_dimspec, kind_of};
 
 use wf_model::Line;
 
@@ -14,7 +14,16 @@ pub enum Kind {
     Ifdef,
     Endif,
     Include,
+    /// A line that is judged with its like before all others.
+    Dimspec,
     Other,
+}
+
+/// Whether a line of this kind is a dimspec.
+pub fn is_dimspec(kind: Kind) -> bool
+    ensures { result ≡ is_dimspec kind }
+{
+    matches!(kind, Kind::Dimspec)
 }
 
 /// Whether the words are equal but for the case of their letters.
@@ -33,6 +42,8 @@ fn kind_of_word(word: &[u8]) -> Kind
         Kind::Endif
     } else if equal_ignoring_case(word, b"include") {
         Kind::Include
+    } else if equal_ignoring_case(word, b"dimspec") {
+        Kind::Dimspec
     } else {
         Kind::Other
     }

@@ -9,7 +9,8 @@ ghost use Rattle.std.specs.Prelude.{◌≡◌, ◌<◌, IfOk, length, map};
 ghost use Rattle.std.specs.List.{All};
 ghost use Rattle.wf_model.specs.KeptLines.{registry_lines};
 ghost use Rattle.wf_model.specs.Registry.{met_of, stop_of};
-ghost use Rattle.wf_registry_lines.specs.Kept.{kept_in};
+ghost use Rattle.wf_registry_lines.specs.Kept.{IsThere, TellsDimspec, kept_in, text_at};
+ghost use Rattle.wf_registry_lines.specs.FileLines.{line_at};
 
 mod ahead;
 mod condition;
@@ -23,14 +24,18 @@ use crate::progress::ReadingError;
 use crate::reader::Reader;
 use std::alloc::{AllocError, Global};
 use wf_model::{List, Name, RegistryFault, SourceFile, Word};
+use wf_text::{TextError, next_line};
 
-/// A line that counts: the place, from 0, of its file among the files that are read, the number of
-/// its first physical line, from 1, and its words.
-#[derive(Drop)]
+/// A line that counts: the place, from 0, of its file among the files that are read, and the number of its first physical
+/// line, from 1. Its words are those of the first line of its file's text behind so many bytes and physical lines.
+#[derive(Clone, Copy)]
 pub struct KeptLine {
     pub file: usize,
     pub number: u32,
-    pub words: List<Word>,
+    pub from: u32,
+    pub before: u32,
+    /// Whether it is a dimspec.
+    pub dimspec: bool,
 }
 
 /// The lines that count, in reading order, till the end or till reading stops, and why it stops.
@@ -38,6 +43,14 @@ pub struct KeptLine {
 pub struct KeptLines {
     pub lines: Vec<KeptLine>,
     pub fault: Option<RegistryFault>,
+}
+
+/// The lines, with no more room than they take.
+fn fitted(mut lines: Vec<KeptLine>) -> Vec<KeptLine>
+    ensures { result.items ≡ lines.items }
+{
+    lines.shrink_to_fit();
+    lines
 }
 
 /// The lines that count among these files, where these names are defined, each with a value.
@@ -65,7 +78,8 @@ pub fn kept_lines(
 ) -> Result<KeptLines, AllocError>
     ensures lines { IfOk result (λ k. map (kept_in files.now) k.lines.items ≡ (met_of (registry_lines files.now defines.now)).kept) }
     ensures fault { IfOk result (λ k. k.fault ≡ stop_of (registry_lines files.now defines.now)) }
-    ensures places { IfOk result (λ k. All (λ l. l.file < length files.now) k.lines.items) }
+    ensures places { IfOk result (λ k. All (IsThere files.now) k.lines.items) }
+    ensures dimspecs { IfOk result (λ k. All (TellsDimspec files.now) k.lines.items) }
 {
     let reader = Reader {
         alloc,
@@ -74,13 +88,33 @@ pub fn kept_lines(
     };
     match reader.registry() {
         Ok(progress) => Ok(KeptLines {
-            lines: progress.kept,
+            lines: fitted(progress.kept),
             fault: None,
         }),
         Err(ReadingError::Stopped(stopped)) => Ok(KeptLines {
-            lines: stopped.progress.kept,
+            lines: fitted(stopped.progress.kept),
             fault: Some(stopped.fault),
         }),
         Err(ReadingError::Memory) => Err(AllocError),
+    }
+}
+
+/// The words of a line that counts, read again.
+pub fn words_at(
+    alloc: Global,
+    files: &[SourceFile],
+    line: &KeptLine,
+) -> Result<List<Word>, AllocError>
+    requires { IsThere files.now line.now }
+    ensures { IfOk result (λ w. w ≡ (line_at (text_at files.now line.now.file) line.now.from line.now.before).words) }
+{
+    let text = files[line.file].text.as_slice();
+    let (_, rest) = text.split_at(line.from as usize);
+    match next_line(alloc, rest, line.before) {
+        Ok(Some(next)) => Ok(next.line.words),
+        Err(TextError::Memory) => Err(AllocError),
+        Ok(None)
+        | Err(TextError::UnclosedQuote { .. })
+        | Err(TextError::DanglingBackslash { .. }) => unreachable!(),
     }
 }

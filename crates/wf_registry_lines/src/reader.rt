@@ -6,18 +6,18 @@ ghost use Rattle.std.specs.Str.{bytes_eq};
 ghost use Rattle.wf_model.specs.KeptLines.{columns, fault_line, first_column, included, kept_line, registry_lines, texts, with_line};
 ghost use Rattle.wf_model.specs.Letters.{is_among};
 ghost use Rattle.wf_model.specs.Reading.{Gives};
-ghost use Rattle.wf_registry_lines.specs.Ahead.{ahead_met, entered_met, file_at_met, next_met};
-ghost use Rattle.wf_registry_lines.specs.Kept.{name_at};
+ghost use Rattle.wf_registry_lines.specs.Ahead.{ahead_met, entered_met, file_at_met, next_met, seen};
+ghost use Rattle.wf_registry_lines.specs.FileLines.{IsHeld, held};
+ghost use Rattle.wf_registry_lines.specs.Kept.{name_at, text_at};
 ghost use Rattle.wf_registry_lines.specs.Met.{ArePlaced, AreLeftPlaced, IsStop, entered_in, includes_at, met_in, seen_in, within_in};
 
 use crate::KeptLine;
-use crate::ahead::{AheadLine, ahead};
+use crate::ahead::{AheadLine, FileLine, ahead, file_lines};
 use crate::condition::{Conditions, deeper, shallower};
-use crate::kind::{Kind, first_column, kind_of};
+use crate::kind::{Kind, first_column, is_dimspec};
 use crate::progress::{Progress, ReadingError, stop};
 use std::alloc::{AllocError, Global};
 use wf_model::{Bytes, Line, Name, RegistryKind, SourceFile, TextFault};
-use wf_text::read_until_fault;
 
 /// So many files a Registry may have, `Registry` being the first.
 const MOST_FILES: u32 = 64;
@@ -94,9 +94,9 @@ impl Reader<'_> {
         progress: Progress,
     ) -> Result<(Progress, Conditions), ReadingError>
         requires place { place < length self.now.files.now }
-        requires placed { ArePlaced (length self.now.files.now) progress }
+        requires placed { ArePlaced self.now.files.now progress }
         ensures read { Gives (entered_in self.now.files.now) (seen_in self.now.files.now) result (entered_met (met_in self.now.files.now progress) (name_at self.now.files.now place) line within) }
-        ensures placed { MatchResult result (λ x. ArePlaced (length self.now.files.now) x.0) (λ e. AreLeftPlaced (length self.now.files.now) e) }
+        ensures placed { MatchResult result (λ x. ArePlaced self.now.files.now x.0) (λ e. AreLeftPlaced self.now.files.now e) }
         ensures within { IfOk result (λ x. within ≡ Ok x.1) }
     {
         match within {
@@ -109,18 +109,21 @@ impl Reader<'_> {
     fn kept(
         &self,
         place: usize,
-        line: Line,
+        line: &FileLine,
         mut progress: Progress,
     ) -> Result<Progress, ReadingError>
         requires place { place < length self.now.files.now }
-        requires placed { ArePlaced (length self.now.files.now) progress }
-        ensures read { Gives (met_in self.now.files.now) (seen_in self.now.files.now) result (Ok (with_line (met_in self.now.files.now progress) (kept_line (name_at self.now.files.now place) line))) }
-        ensures placed { MatchResult result (λ p. ArePlaced (length self.now.files.now) p) (λ e. AreLeftPlaced (length self.now.files.now) e) }
+        requires held { IsHeld (text_at self.now.files.now place) line.now }
+        requires placed { ArePlaced self.now.files.now progress }
+        ensures read { Gives (met_in self.now.files.now) (seen_in self.now.files.now) result (Ok (with_line (met_in self.now.files.now progress) (kept_line (name_at self.now.files.now place) (held (text_at self.now.files.now place) line.now)))) }
+        ensures placed { MatchResult result (λ p. ArePlaced self.now.files.now p) (λ e. AreLeftPlaced self.now.files.now e) }
     {
         progress.kept.push(KeptLine {
             file: place,
-            number: line.number,
-            words: line.words,
+            number: line.line.number,
+            from: line.from,
+            before: line.before,
+            dimspec: is_dimspec(line.kind),
         })?;
         Ok(progress)
     }
@@ -138,9 +141,9 @@ impl Reader<'_> {
     ) -> Result<Progress, ReadingError>
         requires place { place < length self.now.files.now }
         requires reading { All (λ k. k < length self.now.files.now) reading.now }
-        requires placed { ArePlaced (length self.now.files.now) progress }
+        requires placed { ArePlaced self.now.files.now progress }
         ensures read { Gives (met_in self.now.files.now) (seen_in self.now.files.now) result (includes_at depth self.now.files.now self.now.defines.now reading.now (met_in self.now.files.now progress) (name_at self.now.files.now place) line name.now) }
-        ensures placed { MatchResult result (λ p. ArePlaced (length self.now.files.now) p) (λ e. AreLeftPlaced (length self.now.files.now) e) }
+        ensures placed { MatchResult result (λ p. ArePlaced self.now.files.now p) (λ e. AreLeftPlaced self.now.files.now e) }
     {
         if depth == 0 || progress.files >= MOST_FILES {
             return Err(self.stop(place, line, RegistryKind::TooLong, progress));
@@ -174,9 +177,9 @@ impl Reader<'_> {
     ) -> Result<Progress, ReadingError>
         requires place { place < length self.now.files.now }
         requires reading { All (λ k. k < length self.now.files.now) reading.now }
-        requires placed { ArePlaced (length self.now.files.now) progress }
+        requires placed { ArePlaced self.now.files.now progress }
         ensures read { Gives (met_in self.now.files.now) (seen_in self.now.files.now) result (included (includes_at depth self.now.files.now self.now.defines.now reading.now) (met_in self.now.files.now progress) (name_at self.now.files.now place) line.now.number (first_column (columns (texts line.now)))) }
-        ensures placed { MatchResult result (λ p. ArePlaced (length self.now.files.now) p) (λ e. AreLeftPlaced (length self.now.files.now) e) }
+        ensures placed { MatchResult result (λ p. ArePlaced self.now.files.now p) (λ e. AreLeftPlaced self.now.files.now e) }
     {
         match first_column(line) {
             None => Err(self.stop(place, line.number, RegistryKind::Columns, progress)),
@@ -197,32 +200,33 @@ impl Reader<'_> {
     ) -> Result<(Progress, Conditions), ReadingError>
         requires place { place < length self.now.files.now }
         requires reading { All (λ k. k < length self.now.files.now) reading.now }
+        requires held { IsHeld (text_at self.now.files.now place) next.line }
         requires within { within.keeping + within.dropping + 1 < 2 ^ 64 }
-        requires placed { ArePlaced (length self.now.files.now) progress }
-        ensures read { Gives (entered_in self.now.files.now) (seen_in self.now.files.now) result (next_met self.now.defines.now (includes_at depth self.now.files.now self.now.defines.now reading.now) (name_at self.now.files.now place) (met_in self.now.files.now progress) (within_in within) next) }
-        ensures placed { MatchResult result (λ x. ArePlaced (length self.now.files.now) x.0) (λ e. AreLeftPlaced (length self.now.files.now) e) }
+        requires placed { ArePlaced self.now.files.now progress }
+        ensures read { Gives (entered_in self.now.files.now) (seen_in self.now.files.now) result (next_met self.now.defines.now (includes_at depth self.now.files.now self.now.defines.now reading.now) (name_at self.now.files.now place) (met_in self.now.files.now progress) (within_in within) (seen (text_at self.now.files.now place) next)) }
+        ensures placed { MatchResult result (λ x. ArePlaced self.now.files.now x.0) (λ e. AreLeftPlaced self.now.files.now e) }
         ensures within { IfOk result (λ x. x.1.keeping + x.1.dropping ≤ within.keeping + within.dropping + 1) }
     {
-        let line = next.line;
+        let line = &next.line.line;
         if progress.lines >= MOST_LINES {
             return Err(self.stop(place, line.number, RegistryKind::TooLong, progress));
         }
         progress.lines += 1;
-        match kind_of(&line) {
+        match next.line.kind {
             Kind::Ifdef => {
-                let inside = deeper(self.defines, &line, next.closed, within);
+                let inside = deeper(self.defines, line, next.closed, within);
                 self.entered(place, line.number, inside, progress)
             }
             Kind::Endif => self.entered(place, line.number, shallower(within), progress),
             Kind::Include if within.dropping == 0 => {
-                let progress = self.include(depth, reading, place, &line, progress)?;
+                let progress = self.include(depth, reading, place, line, progress)?;
                 Ok((progress, within))
             }
-            Kind::Other if within.dropping == 0 => {
-                let progress = self.kept(place, line, progress)?;
+            Kind::Dimspec | Kind::Other if within.dropping == 0 => {
+                let progress = self.kept(place, &next.line, progress)?;
                 Ok((progress, within))
             }
-            Kind::Include | Kind::Other => Ok((progress, within)),
+            Kind::Include | Kind::Dimspec | Kind::Other => Ok((progress, within)),
         }
     }
 
@@ -238,9 +242,10 @@ impl Reader<'_> {
     ) -> Result<Progress, ReadingError>
         requires place { place < length self.now.files.now }
         requires reading { All (λ k. k < length self.now.files.now) reading.now }
-        requires placed { ArePlaced (length self.now.files.now) progress }
-        ensures read { Gives (met_in self.now.files.now) (seen_in self.now.files.now) result (ahead_met self.now.defines.now (includes_at depth self.now.files.now self.now.defines.now reading.now) (name_at self.now.files.now place) (met_in self.now.files.now progress) (record { keeping = 0; dropping = 0 }) (reverse ahead.items)) }
-        ensures placed { MatchResult result (λ p. ArePlaced (length self.now.files.now) p) (λ e. AreLeftPlaced (length self.now.files.now) e) }
+        requires held { All (λ a. IsHeld (text_at self.now.files.now place) a.line) ahead.items }
+        requires placed { ArePlaced self.now.files.now progress }
+        ensures read { Gives (met_in self.now.files.now) (seen_in self.now.files.now) result (ahead_met self.now.defines.now (includes_at depth self.now.files.now self.now.defines.now reading.now) (name_at self.now.files.now place) (met_in self.now.files.now progress) (record { keeping = 0; dropping = 0 }) (map (seen (text_at self.now.files.now place)) (reverse ahead.items))) }
+        ensures placed { MatchResult result (λ p. ArePlaced self.now.files.now p) (λ e. AreLeftPlaced self.now.files.now e) }
     {
         let mut within = Conditions {
             keeping: 0,
@@ -265,14 +270,14 @@ impl Reader<'_> {
     ) -> Result<Progress, ReadingError>
         requires place { place < length self.now.files.now }
         requires reading { All (λ k. k < length self.now.files.now) reading.now }
-        requires placed { ArePlaced (length self.now.files.now) progress }
+        requires placed { ArePlaced self.now.files.now progress }
         ensures read { Gives (met_in self.now.files.now) (seen_in self.now.files.now) result (file_at_met self.now.defines.now (includes_at depth self.now.files.now self.now.defines.now reading.now) (met_in self.now.files.now progress) (slice_get self.now.files.now place)) }
-        ensures placed { MatchResult result (λ p. ArePlaced (length self.now.files.now) p) (λ e. AreLeftPlaced (length self.now.files.now) e) }
+        ensures placed { MatchResult result (λ p. ArePlaced self.now.files.now p) (λ e. AreLeftPlaced self.now.files.now e) }
     {
         let Ok(text) = str::from_utf8(self.files[place].text.as_slice()) else {
             return Err(self.stop(place, 0, RegistryKind::NotText, progress));
         };
-        let read = read_until_fault(self.alloc, text)?;
+        let read = file_lines(self.alloc, text.as_bytes())?;
         let ahead = ahead(self.alloc, read.lines, read.fault.is_some())?;
         let progress = self.lines(depth, reading, place, ahead, progress)?;
         match read.fault {
@@ -286,7 +291,7 @@ impl Reader<'_> {
     /// Reads all lines that count, from the file `Registry` on.
     pub fn registry(&self) -> Result<Progress, ReadingError>
         ensures read { Gives (met_in self.now.files.now) (seen_in self.now.files.now) result (registry_lines self.now.files.now self.now.defines.now) }
-        ensures placed { MatchResult result (λ p. ArePlaced (length self.now.files.now) p) (λ e. AreLeftPlaced (length self.now.files.now) e) }
+        ensures placed { MatchResult result (λ p. ArePlaced self.now.files.now p) (λ e. AreLeftPlaced self.now.files.now e) }
     {
         let progress = Progress {
             kept: Vec::new(self.alloc),

@@ -1,3 +1,5 @@
+ghost use Rattle.wf_registry_lines.specs.Kept.{IsThere};
+
 use super::*;
 use std::test::Fail;
 use wf_model::{Bytes, RegistryKind};
@@ -63,11 +65,19 @@ fn push_fault(rt: &HostRuntime, out: &mut String, fault: &RegistryFault) -> Resu
     push_kind(out, &fault.kind)
 }
 
-fn push_line(rt: &HostRuntime, out: &mut String, line: &KeptLine) -> Result<(), Fail> {
+fn push_line(
+    rt: &HostRuntime,
+    files: &[SourceFile],
+    out: &mut String,
+    line: &KeptLine,
+) -> Result<(), Fail>
+    requires { IsThere files.now line.now }
+{
     let file = line.file;
     let number = line.number;
     out.push_str(format!(in rt.alloc(); "{file}:{number}")?.as_str())?;
-    for word in line.words.as_slice() {
+    let words = words_at(rt.alloc(), files, line)?;
+    for word in words.as_slice() {
         out.push(' ')?;
         push_bytes(out, word.text.as_slice())?;
     }
@@ -80,7 +90,7 @@ fn written(rt: &HostRuntime, files: &[SourceFile]) -> Result<String, Fail> {
     let kept = kept_lines(rt.alloc(), files, &defines(rt)?)?;
     let mut out = String::new(rt.alloc());
     for line in &kept.lines {
-        push_line(rt, &mut out, line)?;
+        push_line(rt, files, &mut out, line)?;
     }
     match &kept.fault {
         None => {}

@@ -1,7 +1,10 @@
-use Rattle.std.proofs.Common.{◌≡◌, ◌+◌, ◌*◌, ◌≤◌, length, reverse, vec_len}
-use Rattle.wf_registry_lines.specs.Ahead.{ahead_met}
-use Rattle.wf_registry_lines.specs.Kept.{name_at}
+use Rattle.std.proofs.Common.{◌≡◌, ◌+◌, ◌*◌, ◌≤◌, length, map, reverse, vec_len}
+use Rattle.std.specs.List.{All}
+use Rattle.wf_registry_lines.specs.Ahead.{ahead_met, seen}
+use Rattle.wf_registry_lines.specs.FileLines.{IsHeld}
+use Rattle.wf_registry_lines.specs.Kept.{name_at, text_at}
 use Rattle.wf_registry_lines.specs.Met.{ArePlaced, includes_at, met_in, within_in}
+use Rattle.wf_registry_lines.specs.declared.ahead.AheadLine.{AheadLine}
 use Rattle.wf_registry_lines.proofs.reader.Reader.+reader.Given as goal
 
 abbrev pub decreases-file : goal.decreases-file
@@ -21,9 +24,10 @@ decreases-named l = 5 * l.depth
 
 abbrev pub invariant-lines-loop-next : goal.invariant-lines-loop-next
 invariant-lines-loop-next l = record {
-  same : ahead_met l.self.defines.now (includes_at l.depth l.self.files.now l.self.defines.now l.reading) (name_at l.self.files.now l.place) (met_in l.self.files.now l.progress) (within_in l.within) (reverse l.ahead.items)
-      ≡ ahead_met l.self.defines.now (includes_at l.depth l.self.files.now l.self.defines.now l.reading) (name_at l.self.files.now l.place) (met_in l.self.files.now l.fn.progress) (record { keeping = 0; dropping = 0 }) (reverse l.fn.ahead.items);
-  placed : ArePlaced (length l.self.files.now) l.progress;
+  same : ahead_met l.self.defines.now (includes_at l.depth l.self.files.now l.self.defines.now l.reading) (name_at l.self.files.now l.place) (met_in l.self.files.now l.progress) (within_in l.within) (map (seen (text_at l.self.files.now l.place)) (reverse l.ahead.items))
+      ≡ ahead_met l.self.defines.now (includes_at l.depth l.self.files.now l.self.defines.now l.reading) (name_at l.self.files.now l.place) (met_in l.self.files.now l.fn.progress) (record { keeping = 0; dropping = 0 }) (map (seen (text_at l.self.files.now l.place)) (reverse l.fn.ahead.items));
+  held : All (λ (a : AheadLine). IsHeld (text_at l.self.files.now l.place) a.line) l.ahead.items;
+  placed : ArePlaced l.self.files.now l.progress;
   room : l.within.keeping + l.within.dropping + length l.ahead.items ≤ length l.fn.ahead.items;
 }
 
