@@ -81,9 +81,10 @@ pub fn wrapped_place(periodic: bool, count: u32, from: u32, by: i32) -> u32
     ensures high { result ≤ count }
 {
     let place = i64::from(from) + i64::from(by);
-    if periodic {
-        (place - 1).rem_euclid(i64::from(count)) as u32 + 1
-    } else {
+    let count = i64::from(count);
+    if !periodic || (1 <= place && place <= count) {
         place as u32
+    } else {
+        (place - 1).rem_euclid(count) as u32 + 1
     }
 }
