@@ -41,9 +41,11 @@ def main():
     half, whole = (nanoseconds(proved, "registry", path[name]) for name in ("registry_half", "registry"))
     print(f"a Registry twice as long: {whole / half:.2f} times the time")
     if shutil.which("time"):
-        size = os.path.getsize(path["registry"]) / 1024
-        more = kilobytes(proved, "registry", path["registry"]) - kilobytes(proved, "registry", os.devnull)
-        print(f"memory of the Registry of 50,000 lines: {more} KB, {more / size:.1f} times its text")
+        base = kilobytes(proved, "registry", os.devnull)
+        for name, lines in (("registry_half", "25,000"), ("registry", "50,000")):
+            size = os.path.getsize(path[name]) / 1024
+            more = kilobytes(proved, "registry", path[name]) - base
+            print(f"memory of a Registry of {lines} lines: {more} KB, {more / size:.1f} times its text")
     else:
         print("memory: skipped: no time(1)")
 
