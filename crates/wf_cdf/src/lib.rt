@@ -17,8 +17,3 @@ pub use slab::{write_chars, write_slab};
 pub use sound::{begins_fit, is_sound};
 pub use stream_header::{file_header, stream_levels};
 pub use too_long::TooLong;
-
-#[cfg(test)]
-mod stream_tests;
-#[cfg(test)]
-mod tests;

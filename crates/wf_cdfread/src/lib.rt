@@ -11,8 +11,3 @@ mod values;
 pub use error::{HeaderError, ValuesError};
 pub use header::read_header;
 pub use values::{chars, find_slab, slab};
-
-#[cfg(test)]
-mod library_tests;
-#[cfg(test)]
-mod tests;

@@ -19,6 +19,3 @@ mod words;
 pub use binding::bind;
 pub use error::ConfigError;
 pub use table_names::names;
-
-#[cfg(test)]
-mod tests;

@@ -12,6 +12,3 @@ mod reader;
 pub use evaluation::eval;
 pub use overflow::Overflow;
 pub use reader::Reader;
-
-#[cfg(test)]
-mod tests;

@@ -13,6 +13,3 @@ mod surroundings;
 mod whole;
 
 pub use whole::Whole;
-
-#[cfg(test)]
-mod tests;

@@ -20,6 +20,3 @@ mod values;
 
 pub use error::NamelistError;
 pub use namelist::read_namelist;
-
-#[cfg(test)]
-mod tests;

@@ -5,6 +5,3 @@ mod planning;
 
 pub use planning::plan;
 pub use wf_plan_domains::PlanError;
-
-#[cfg(test)]
-mod tests;

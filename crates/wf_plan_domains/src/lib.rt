@@ -14,6 +14,3 @@ mod times;
 
 pub use error::PlanError;
 pub use plan::domain_plan;
-
-#[cfg(test)]
-mod tests;

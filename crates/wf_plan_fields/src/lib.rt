@@ -10,6 +10,3 @@ mod streams;
 
 pub use field_levels::levels;
 pub use level_lists::Levels;
-
-#[cfg(test)]
-mod tests;

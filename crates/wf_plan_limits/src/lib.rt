@@ -9,6 +9,3 @@ mod ranged;
 mod script;
 
 pub use limits::limit_fault;
-
-#[cfg(test)]
-mod tests;

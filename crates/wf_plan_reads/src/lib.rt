@@ -8,6 +8,3 @@ mod regions;
 mod walk;
 
 pub use faults::read_fault;
-
-#[cfg(test)]
-mod tests;

@@ -23,6 +23,3 @@ mod unknown;
 
 pub use error::RegistryError;
 pub use registry::read_registry;
-
-#[cfg(test)]
-mod tests;

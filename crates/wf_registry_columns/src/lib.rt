@@ -30,6 +30,3 @@ pub use state::{
     is_short, is_state_type, is_two, level_names, staggered, variable_of, variables_of,
 };
 pub use words::behind;
-
-#[cfg(test)]
-mod tests;

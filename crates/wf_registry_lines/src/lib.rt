@@ -17,8 +17,6 @@ mod condition;
 mod kind;
 mod progress;
 mod reader;
-#[cfg(test)]
-mod tests;
 
 use crate::progress::ReadingError;
 use crate::reader::Reader;

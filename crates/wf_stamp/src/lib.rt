@@ -15,6 +15,3 @@ mod texts;
 pub use stamp_error::StampError;
 pub use stamps::{Stamp, between};
 pub use texts::{read_stamp, stamp_text};
-
-#[cfg(test)]
-mod tests;

@@ -16,10 +16,3 @@ mod writer;
 pub use frames::Frames;
 pub use input::{InputError, read_input};
 pub use writer::{StreamError, Totals, Writer};
-
-#[cfg(test)]
-mod file_name_tests;
-#[cfg(test)]
-mod input_tests;
-#[cfg(test)]
-mod tests;

@@ -14,6 +14,3 @@ mod tree;
 
 pub use error::TableError;
 pub use table::read_table;
-
-#[cfg(test)]
-mod tests;

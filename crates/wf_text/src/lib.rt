@@ -17,6 +17,3 @@ pub use forms::{
     is_whole_in_32, lower, upper, whole, whole_in_32,
 };
 pub use logical::{LinesRead, NextLine, next_line, read_lines, read_until_fault};
-
-#[cfg(test)]
-mod tests;

@@ -19,12 +19,3 @@ mod words;
 mod writes;
 
 pub use top::tool_main;
-
-#[cfg(test)]
-mod check_tests;
-#[cfg(test)]
-mod plain_tests;
-#[cfg(test)]
-mod settle_tests;
-#[cfg(test)]
-mod tests;

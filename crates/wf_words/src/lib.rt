@@ -8,6 +8,3 @@ mod error;
 
 pub use commands::{check_words, plain_words, words_of_check, words_of_plain};
 pub use error::WordsError;
-
-#[cfg(test)]
-mod tests;

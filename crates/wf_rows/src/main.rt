@@ -1,0 +1,46 @@
+//! Runs worked cases: `wf_rows FILE..` performs data files, line by line, and prints what each
+//! case gives. The gate runs it on the files of `data/`, and compares what it prints with
+//! `stdout`, which was not taken from the program. The lines of a data file:
+//!
+//! - nothing, or `# TEXT`: a comment.
+//! - `case NAME`: a case begins. Its files are those that stand before the first case.
+//! - `file NAME`: gives the name an empty file. `without NAME`: takes the file out.
+//! - `line NAME N`: takes out a line, by its number from 1. `at NAME AT COUNT`: takes out so many
+//!   bytes from byte AT, from 0. `end NAME`: goes to the file's end.
+//! - `|TEXT`: a line of text. `bytes WORDS`: bytes, as hex digits or `'TEXT'`. `numbers WORDS`:
+//!   numbers of 4 bytes. They come in the place that the line before them left.
+//! - `fail CALL KEPT`: in the next run this call of the store fails, counted from 1, with so many
+//!   bytes of its write kept. `fail put CALL`: this put of the sink fails.
+//! - `run WORDS`: runs `tool_main` with these words, on a store of the case's files, and prints the
+//!   status, the number of the store's faults and the text that the sink took.
+//! - `show NAME`: prints the length of a file that the run left, and the MD5 digest of its bytes.
+//! - `look NAME AT COUNT`: prints so many numbers of 4 bytes of it, from byte AT.
+//!
+//! A line that is none of these ends the program with status 1, and is named with its file.
+#![tactic(auto)]
+
+mod files;
+mod pieces;
+mod script;
+
+use crate::script::Script;
+use anyhow::{Context, Result};
+use std::{env, fs};
+
+fn perform_file(rt: &HostRuntime, name: &str) -> Result<()> {
+    let text = fs::read_to_string(rt, name).context(format_args!("reading {name}"))?;
+    let mut script = Script::new(rt.alloc());
+    for (before, line) in text.lines().enumerate() {
+        script
+            .perform(rt, line)
+            .context(format_args!("{name} line {}", before.saturating_add(1)))?;
+    }
+    Ok(())
+}
+
+fn main(rt: HostRuntime) -> Result<()> {
+    for name in env::args(&rt)?.skip(1) {
+        perform_file(&rt, name.as_str())?;
+    }
+    Ok(())
+}
