@@ -4,19 +4,22 @@ use Rattle.std.specs.Prelude.{ℤ, pos, ◌+ℤ◌, ◌-ℤ◌, ◌*ℤ◌, neg_
 use Rattle.std.specs.Int.{int_div_euclid, int_rem_euclid, int_min, int_max}
 use Rattle.wf_model.specs.declared.expr.Expr.{Expr, Expr-F, roll-Expr, fold-roll-Expr, map-Expr}
 use Rattle.wf_model.specs.declared.expr.Expr.TheVariants as expr
-use Rattle.wf_model.specs.declared.expr.Args.{Args, fold-Args}
+use Rattle.wf_model.specs.declared.expr.Args.{Args, Args-F, roll-Args, fold-roll-Args, map-Args}
+use Rattle.wf_model.specs.declared.expr.Args.TheVariants as args
 use Rattle.wf_model.specs.declared.expr.Args.TheOpen as e
 use Rattle.wf_model.specs.declared.expr.Test.{Test}
 use Rattle.wf_model.specs.Numbers.{in_i64, and_then, of_both}
 use Rattle.wf_model.specs.Value.{Sight, Answers, number_of, list_value, layer_value, branch}
 use Rattle.wf_model.specs.Reads.{Read, reads_of, list_reads, layer_reads}
-use Rattle.wf_model.specs.ExprFacts.{Parts, ArgumentParts, no_parts, parts_of, parts_of_both, divided, list_parts, layer_parts, nodes_of, list_nodes, layer_nodes}
+use Rattle.wf_model.specs.ExprFacts.{Parts, ArgumentParts, no_parts, parts_of, parts_of_both, divided, call_parts, list_parts, layer_parts, layer_nodes}
+use Rattle.wf_eval.specs.Arguments.{numbers_in, parts_in, reads_in}
+use Rattle.wf_eval.specs.Steps.{list_steps, steps_of, steps_in}
 
 module _ (m : Answers) (s : Sight) where
   -- the number of one layer
   number_roll : (x : Expr-F Args Expr) →
-      number_of m s (roll-Expr x) ≡ layer_value m s (map-Expr Args Expr (Option (List ℤ)) (Option ℤ) (fold-Args (Option (List ℤ)) (Option ℤ) list_value (layer_value m s)) (number_of m s) x)
-  unfolding number_of
+      number_of m s (roll-Expr x) ≡ layer_value m s (map-Expr Args Expr (Option (List ℤ)) (Option ℤ) (numbers_in m s) (number_of m s) x)
+  unfolding number_of numbers_in
   number_roll x = fold-roll-Expr (Option (List ℤ)) (Option ℤ) list_value (layer_value m s) x
 
   pub number-Num : (n : ℕ) → number_of m s (expr.Num n) ≡ in_i64 (pos n)
@@ -64,11 +67,25 @@ module _ (m : Answers) (s : Sight) where
   pub number-If : (t : Test) (a b c o : Expr) → number_of m s (expr.If t a b c o) ≡ branch t (number_of m s a) (number_of m s b) (number_of m s c) (number_of m s o)
   number-If t a b c o = ap (number_of m s) (sym (expr.rolls-If t a b c o)) ∙ number_roll (e.If t a b c o)
 
+  pub number-Call : (id : ℕ) (list : Args) → number_of m s (expr.Call id list) ≡ and_then (numbers_in m s list) (λ xs. in_i64 (m id xs))
+  number-Call id list = ap (number_of m s) (sym (expr.rolls-Call id list)) ∙ number_roll (e.Call id list)
+
+  -- the numbers of one argument more
+  numbers_roll : (x : Args-F Args Expr) → numbers_in m s (roll-Args x) ≡ list_value (map-Args Args Expr (Option (List ℤ)) (Option ℤ) (numbers_in m s) (number_of m s) x)
+  unfolding number_of numbers_in
+  numbers_roll x = fold-roll-Args (Option (List ℤ)) (Option ℤ) list_value (layer_value m s) x
+
+  pub numbers-End : numbers_in m s args.End ≡ Some []
+  numbers-End = ap (numbers_in m s) (sym args.rolls-End) ∙ numbers_roll e.End
+
+  pub numbers-More : (a : Expr) (rest : Args) → numbers_in m s (args.More a rest) ≡ of_both (λ x xs. Some (x ∷ xs)) (number_of m s a) (numbers_in m s rest)
+  numbers-More a rest = ap (numbers_in m s) (sym (args.rolls-More a rest)) ∙ numbers_roll (e.More a rest)
+
 -- ---- reads
 
 -- the reads of one layer
-reads_roll : (x : Expr-F Args Expr) → reads_of (roll-Expr x) ≡ layer_reads (map-Expr Args Expr (List Read) (List Read) (fold-Args (List Read) (List Read) list_reads layer_reads) reads_of x)
-unfolding reads_of
+reads_roll : (x : Expr-F Args Expr) → reads_of (roll-Expr x) ≡ layer_reads (map-Expr Args Expr (List Read) (List Read) reads_in reads_of x)
+unfolding reads_of reads_in
 reads_roll x = fold-roll-Expr (List Read) (List Read) list_reads layer_reads x
 
 pub reads-Read : (f : ℕ) (di dk dj : ℤ) → reads_of (expr.Read f di dk dj) ≡ record { field = f; di = di; dk = dk; dj = dj } ∷ []
@@ -101,11 +118,21 @@ reads-Max a b = ap reads_of (sym (expr.rolls-Max a b)) ∙ reads_roll (e.Max a b
 pub reads-If : (t : Test) (a b c o : Expr) → reads_of (expr.If t a b c o) ≡ reads_of a ++ reads_of b ++ reads_of c ++ reads_of o
 reads-If t a b c o = ap reads_of (sym (expr.rolls-If t a b c o)) ∙ reads_roll (e.If t a b c o)
 
+pub reads-Call : (id : ℕ) (list : Args) → reads_of (expr.Call id list) ≡ reads_in list
+reads-Call id list = ap reads_of (sym (expr.rolls-Call id list)) ∙ reads_roll (e.Call id list)
+
+list_reads_roll : (x : Args-F Args Expr) → reads_in (roll-Args x) ≡ list_reads (map-Args Args Expr (List Read) (List Read) reads_in reads_of x)
+unfolding reads_of reads_in
+list_reads_roll x = fold-roll-Args (List Read) (List Read) list_reads layer_reads x
+
+pub reads-More : (a : Expr) (rest : Args) → reads_in (args.More a rest) ≡ reads_of a ++ reads_in rest
+reads-More a rest = ap reads_in (sym (args.rolls-More a rest)) ∙ list_reads_roll (e.More a rest)
+
 -- ---- divisors and calls
 
 -- the parts of one layer
-parts_roll : (x : Expr-F Args Expr) → parts_of (roll-Expr x) ≡ layer_parts (map-Expr Args Expr ArgumentParts Parts (fold-Args ArgumentParts Parts list_parts layer_parts) parts_of x)
-unfolding parts_of
+parts_roll : (x : Expr-F Args Expr) → parts_of (roll-Expr x) ≡ layer_parts (map-Expr Args Expr ArgumentParts Parts parts_in parts_of x)
+unfolding parts_of parts_in
 parts_roll x = fold-roll-Expr ArgumentParts Parts list_parts layer_parts x
 
 pub parts-Num : (n : ℕ) → parts_of (expr.Num n) ≡ record { divisors = []; numbers = n ∷ []; calls = [] }
@@ -144,46 +171,59 @@ parts-Max a b = ap parts_of (sym (expr.rolls-Max a b)) ∙ parts_roll (e.Max a b
 pub parts-If : (t : Test) (a b c o : Expr) → parts_of (expr.If t a b c o) ≡ parts_of_both (parts_of_both (parts_of a) (parts_of b)) (parts_of_both (parts_of c) (parts_of o))
 parts-If t a b c o = ap parts_of (sym (expr.rolls-If t a b c o)) ∙ parts_roll (e.If t a b c o)
 
--- a call of a stored function is among the calls
-pub call-is : (id : ℕ) (list : Args) → (parts_of (expr.Call id list)).calls ≡ [] → ⊥
-call-is id list none =
-    let is = ap (λ (p : Parts). p.calls) (ap parts_of (sym (expr.rolls-Call id list)) ∙ parts_roll (e.Call id list)) in
-    not_nil _ (fold-Args ArgumentParts Parts list_parts layer_parts list).parts.calls (sym is ∙ none)
-  where
-    not_nil : {X : Type 0} (x : X) (xs : List X) → xs ++ x ∷ [] ≡ [] → ⊥
-    not_nil x [] h = cc
-    not_nil x (y ∷ ys) h = cc
+pub parts-Call : (id : ℕ) (list : Args) → parts_of (expr.Call id list) ≡ call_parts id (parts_in list)
+parts-Call id list = ap parts_of (sym (expr.rolls-Call id list)) ∙ parts_roll (e.Call id list)
 
--- ---- nodes
+list_parts_roll : (x : Args-F Args Expr) → parts_in (roll-Args x) ≡ list_parts (map-Args Args Expr ArgumentParts Parts parts_in parts_of x)
+unfolding parts_of parts_in
+list_parts_roll x = fold-roll-Args ArgumentParts Parts list_parts layer_parts x
 
--- the nodes of one layer
-nodes_roll : (x : Expr-F Args Expr) → nodes_of (roll-Expr x) ≡ layer_nodes (map-Expr Args Expr ℕ ℕ (fold-Args ℕ ℕ list_nodes layer_nodes) nodes_of x)
-unfolding nodes_of
-nodes_roll x = fold-roll-Expr ℕ ℕ list_nodes layer_nodes x
+pub parts-End : parts_in args.End ≡ record { parts = no_parts; count = 0 }
+parts-End = ap parts_in (sym args.rolls-End) ∙ list_parts_roll e.End
 
-pub nodes-Neg : (a : Expr) → nodes_of (expr.Neg a) ≡ 1 + nodes_of a
-nodes-Neg a = ap nodes_of (sym (expr.rolls-Neg a)) ∙ nodes_roll (e.Neg a)
+pub parts-More : (a : Expr) (rest : Args) → parts_in (args.More a rest) ≡ record { parts = parts_of_both (parts_of a) (parts_in rest).parts; count = (parts_in rest).count + 1 }
+parts-More a rest = ap parts_in (sym (args.rolls-More a rest)) ∙ list_parts_roll (e.More a rest)
 
-pub nodes-Add : (a b : Expr) → nodes_of (expr.Add a b) ≡ 1 + nodes_of a + nodes_of b
-nodes-Add a b = ap nodes_of (sym (expr.rolls-Add a b)) ∙ nodes_roll (e.Add a b)
+-- ---- steps
 
-pub nodes-Sub : (a b : Expr) → nodes_of (expr.Sub a b) ≡ 1 + nodes_of a + nodes_of b
-nodes-Sub a b = ap nodes_of (sym (expr.rolls-Sub a b)) ∙ nodes_roll (e.Sub a b)
+-- the steps of one layer
+steps_roll : (x : Expr-F Args Expr) → steps_of (roll-Expr x) ≡ layer_nodes (map-Expr Args Expr ℕ ℕ steps_in steps_of x)
+unfolding steps_of steps_in
+steps_roll x = fold-roll-Expr ℕ ℕ list_steps layer_nodes x
 
-pub nodes-Mul : (a b : Expr) → nodes_of (expr.Mul a b) ≡ 1 + nodes_of a + nodes_of b
-nodes-Mul a b = ap nodes_of (sym (expr.rolls-Mul a b)) ∙ nodes_roll (e.Mul a b)
+pub steps-Neg : (a : Expr) → steps_of (expr.Neg a) ≡ 1 + steps_of a
+steps-Neg a = ap steps_of (sym (expr.rolls-Neg a)) ∙ steps_roll (e.Neg a)
 
-pub nodes-Div : (a : Expr) (n : ℕ) → nodes_of (expr.Div a n) ≡ 1 + nodes_of a
-nodes-Div a n = ap nodes_of (sym (expr.rolls-Div a n)) ∙ nodes_roll (e.Div a n)
+pub steps-Add : (a b : Expr) → steps_of (expr.Add a b) ≡ 1 + steps_of a + steps_of b
+steps-Add a b = ap steps_of (sym (expr.rolls-Add a b)) ∙ steps_roll (e.Add a b)
 
-pub nodes-Mod : (a : Expr) (n : ℕ) → nodes_of (expr.Mod a n) ≡ 1 + nodes_of a
-nodes-Mod a n = ap nodes_of (sym (expr.rolls-Mod a n)) ∙ nodes_roll (e.Mod a n)
+pub steps-Sub : (a b : Expr) → steps_of (expr.Sub a b) ≡ 1 + steps_of a + steps_of b
+steps-Sub a b = ap steps_of (sym (expr.rolls-Sub a b)) ∙ steps_roll (e.Sub a b)
 
-pub nodes-Min : (a b : Expr) → nodes_of (expr.Min a b) ≡ 1 + nodes_of a + nodes_of b
-nodes-Min a b = ap nodes_of (sym (expr.rolls-Min a b)) ∙ nodes_roll (e.Min a b)
+pub steps-Mul : (a b : Expr) → steps_of (expr.Mul a b) ≡ 1 + steps_of a + steps_of b
+steps-Mul a b = ap steps_of (sym (expr.rolls-Mul a b)) ∙ steps_roll (e.Mul a b)
 
-pub nodes-Max : (a b : Expr) → nodes_of (expr.Max a b) ≡ 1 + nodes_of a + nodes_of b
-nodes-Max a b = ap nodes_of (sym (expr.rolls-Max a b)) ∙ nodes_roll (e.Max a b)
+pub steps-Div : (a : Expr) (n : ℕ) → steps_of (expr.Div a n) ≡ 1 + steps_of a
+steps-Div a n = ap steps_of (sym (expr.rolls-Div a n)) ∙ steps_roll (e.Div a n)
 
-pub nodes-If : (t : Test) (a b c o : Expr) → nodes_of (expr.If t a b c o) ≡ 1 + nodes_of a + nodes_of b + nodes_of c + nodes_of o
-nodes-If t a b c o = ap nodes_of (sym (expr.rolls-If t a b c o)) ∙ nodes_roll (e.If t a b c o)
+pub steps-Mod : (a : Expr) (n : ℕ) → steps_of (expr.Mod a n) ≡ 1 + steps_of a
+steps-Mod a n = ap steps_of (sym (expr.rolls-Mod a n)) ∙ steps_roll (e.Mod a n)
+
+pub steps-Min : (a b : Expr) → steps_of (expr.Min a b) ≡ 1 + steps_of a + steps_of b
+steps-Min a b = ap steps_of (sym (expr.rolls-Min a b)) ∙ steps_roll (e.Min a b)
+
+pub steps-Max : (a b : Expr) → steps_of (expr.Max a b) ≡ 1 + steps_of a + steps_of b
+steps-Max a b = ap steps_of (sym (expr.rolls-Max a b)) ∙ steps_roll (e.Max a b)
+
+pub steps-If : (t : Test) (a b c o : Expr) → steps_of (expr.If t a b c o) ≡ 1 + steps_of a + steps_of b + steps_of c + steps_of o
+steps-If t a b c o = ap steps_of (sym (expr.rolls-If t a b c o)) ∙ steps_roll (e.If t a b c o)
+
+pub steps-Call : (id : ℕ) (list : Args) → steps_of (expr.Call id list) ≡ 1 + steps_in list
+steps-Call id list = ap steps_of (sym (expr.rolls-Call id list)) ∙ steps_roll (e.Call id list)
+
+list_steps_roll : (x : Args-F Args Expr) → steps_in (roll-Args x) ≡ list_steps (map-Args Args Expr ℕ ℕ steps_in steps_of x)
+unfolding steps_of steps_in
+list_steps_roll x = fold-roll-Args ℕ ℕ list_steps layer_nodes x
+
+pub steps-More : (a : Expr) (rest : Args) → steps_in (args.More a rest) ≡ 1 + steps_of a + steps_in rest
+steps-More a rest = ap steps_in (sym (args.rolls-More a rest)) ∙ list_steps_roll (e.More a rest)

@@ -4,6 +4,7 @@
 //! a field holds it. Where a number does not fit, the expression overflows at that point.
 #![tactic(auto)]
 
+mod arguments;
 mod arithmetic;
 mod evaluation;
 mod overflow;

@@ -22,3 +22,4 @@ pub mod FilesKept
 pub mod FrameRuns
 pub mod Rows
 pub mod Turns
+pub mod Accepting

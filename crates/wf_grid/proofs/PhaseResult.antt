@@ -146,20 +146,20 @@ module _ (plan : Plan) (m : Answers) (d : ℕ) (lists : List (List ℤ)) (step :
           ∙ number_in plan d lists f k j i
           ∙ sym (unchanged change grids d f k j i (not_set f k j i (differ f ph.writes e)))
 
-module _ (plan : Plan) (d : ℕ) (lists : List (List ℤ)) (step : ℕ) (ph : Phase) (r : Option Here) (numbers : List ℤ)
+module _ (plan : Plan) (m : Answers) (d : ℕ) (lists : List (List ℤ)) (step : ℕ) (ph : Phase) (r : Option Here) (numbers : List ℤ)
     (level : IsLevel plan ph.writes) (size : length numbers ≡ nz plan ph.writes * (ny plan d ph.writes * nx plan d ph.writes))
-    (done : r ≡ None → (m : Answers) → IsFilled plan m d lists step ph (length numbers) numbers) where
+    (done : r ≡ None → IsFilled plan m d lists step ph (length numbers) numbers) where
   -- what the loop names is the first point that overflows
-  pub names : IfSome r (λ h. (m : Answers) → StopsAt plan m d lists step ph (spot_of ph.writes h)) → (m : Answers) → option_map (spot_of ph.writes) r ≡ overflow_in plan (change plan m d lists step ph)
-  names stopped m = by r refl stopped
+  pub names : IfSome r (λ h. StopsAt plan m d lists step ph (spot_of ph.writes h)) → option_map (spot_of ph.writes) r ≡ overflow_in plan (change plan m d lists step ph)
+  names stopped = by r refl stopped
     where
-      by : (o : Option Here) → r ≡ o → IfSome o (λ h. (m : Answers) → StopsAt plan m d lists step ph (spot_of ph.writes h)) → option_map (spot_of ph.writes) r ≡ overflow_in plan (change plan m d lists step ph)
-      by None e s = ap (option_map (spot_of ph.writes)) e ∙ sym (none_over plan m d lists step ph numbers level size (done e m))
-      by (Some h) e s = ap (option_map (spot_of ph.writes)) e ∙ sym (first_over plan m d lists step ph (spot_of ph.writes h) level (s m))
+      by : (o : Option Here) → r ≡ o → IfSome o (λ h. StopsAt plan m d lists step ph (spot_of ph.writes h)) → option_map (spot_of ph.writes) r ≡ overflow_in plan (change plan m d lists step ph)
+      by None e s = ap (option_map (spot_of ph.writes)) e ∙ sym (none_over plan m d lists step ph numbers level size (done e))
+      by (Some h) e s = ap (option_map (spot_of ph.writes)) e ∙ sym (first_over plan m d lists step ph (spot_of ph.writes h) level s)
 
   -- and without one the lists are those after the phase
-  pub sets : AreLists plan d lists → r ≡ None → (after : List (List ℤ)) → after ≡ set lists ph.writes numbers → (m : Answers) →
+  pub sets : AreLists plan d lists → r ≡ None → (after : List (List ℤ)) → after ≡ set lists ph.writes numbers →
       after ≡ (if is_none r then lists_of plan d (changed (change plan m d lists step ph) (grids plan m d lists step ph)) else lists)
-  sets are e after is m =
-      is ∙ after_phase plan m d lists step ph numbers are level size (done e m)
+  sets are e after is =
+      is ∙ after_phase plan m d lists step ph numbers are level size (done e)
       ∙ (λ n. if is_none (sym e n) then lists_of plan d (changed (change plan m d lists step ph) (grids plan m d lists step ph)) else lists)

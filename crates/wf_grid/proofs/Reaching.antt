@@ -184,12 +184,12 @@ module _ (r : RunData) (steppable : IsSteppable r) (p : ℕ) (lists : List (List
       let small : n < length r.plan.items = subst (IsOwnAct r.plan) (ap (λ (x : Entry). x.act) (sym is) ∙ act) (own r steppable p lists reached more).act in
       subst (λ (x : Plan). n < length x.items) (sym plan_is) small
 
-  pub item_taken : (n : ℕ) (point : Option Point) (new : List (List ℤ)) → e.act ≡ Table n → ((m : Answers) → point ≡ (left_by_item plan m e.domain e.step n lists).point) →
-      ((m : Answers) → new ≡ (left_by_item plan m e.domain e.step n lists).lists) → IsTaken r p point new
-  item_taken n point new act same_point same_lists =
+  pub item_taken : (m : Answers) → r.answers ≡ m → (n : ℕ) (point : Option Point) (new : List (List ℤ)) → e.act ≡ Table n → point ≡ (left_by_item plan m e.domain e.step n lists).point →
+      new ≡ (left_by_item plan m e.domain e.step n lists).lists → IsTaken r p point new
+  item_taken m answers n point new act same_point same_lists =
       taken_table r steppable p lists reached more n point new (ap (λ (x : Entry). x.act) (sym is) ∙ act)
-      (same_point r.answers ∙ (λ i. (left_by_item (plan_is i) r.answers (is i).domain (is i).step n lists).point))
-      (same_lists r.answers ∙ (λ i. (left_by_item (plan_is i) r.answers (is i).domain (is i).step n lists).lists))
+      (same_point ∙ (λ i. (left_by_item (plan_is i) (sym answers i) (is i).domain (is i).step n lists).point))
+      (same_lists ∙ (λ i. (left_by_item (plan_is i) (sym answers i) (is i).domain (is i).step n lists).lists))
 
   -- an item that is none of the table is a frame, and does nothing
   pub frame_taken : (act : Act) → e.act ≡ act → ((n : ℕ) → act ≡ Table n → ⊥) → IsTaken r p None lists

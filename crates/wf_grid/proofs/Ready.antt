@@ -1,6 +1,6 @@
 -- A plan of one domain and what fits it are ready to be settled.
 use Rattle.std.proofs.Common.{◌≡◌, ℕ, zero, suc, Bool, true, false, ◌∷◌, set, take, drop, ◌++◌, ◌+◌, ◌-◌, ◌*◌, ◌^◌, ◌<◌, ◌≤◌, List, [], length, get_or, refl, sym, ap, subst, ◌∙◌, arith}
-use Rattle.std.specs.List.{All, range_with_len}
+use Rattle.std.specs.List.{range_with_len}
 use Rattle.std.proofs.Math.Nat.{zero-mul, suc-mul, mul-le-mul_left}
 use Rattle.std.proofs.lemmas.List.{take-append-le, take_all}
 use Rattle.std.proofs.lemmas.List.Sums.{sum_by-cons}
@@ -13,14 +13,13 @@ use Rattle.wf_model.specs.declared.plan.Item.{Item}
 use Rattle.wf_model.specs.declared.plan.Item.TheVariants as item
 use Rattle.wf_model.specs.declared.initial.Initial.{Initial}
 use Rattle.wf_model.specs.Plans.{domain_of, field_of, item_of, no_item, no_field, begin_of, nx, ny, nz}
-use Rattle.wf_model.specs.ExprFacts.{parts_of}
 use Rattle.wf_model.specs.Ranges.{IsRangedItem, IsRangedPhase}
 use Rattle.wf_model.specs.Sound.{IsDomain, IsLevel, IsSoundPlan, IsRangedPlan, IsFittingInitial, IsSoundItem, IsSoundPhase}
 use Rattle.wf_model.specs.Outcome.{no_list, no_lists}
 use Rattle.wf_grid.specs.Levels.{AreLists}
 use Rattle.wf_grid.specs.Reading.{IsRunnable}
 use Rattle.wf_grid.specs.Takeable.{IsTakeable, IsTable}
-use Rattle.wf_grid.specs.Held.{IsReady, CallsNothing, first_lists}
+use Rattle.wf_grid.specs.Held.{IsReady, first_lists}
 
 -- a sum of numbers up to a greatest
 sum_most : (f : ℕ → ℕ) (c : ℕ) → ((k : ℕ) → f k ≤ c) → (a n : ℕ) → sum_by f (range_with_len a n) ≤ n * c
@@ -50,27 +49,26 @@ unfolding days_before
 last_is_early = omega (arith, sum_most year_days 366 year_most 1 9998, sum_most (month_days 9999) 31 (month_most 9999) 1 11)
 
 module _ (plan : Plan) (initial : Initial) (sound : IsSoundPlan plan) (ranged : IsRangedPlan plan) (fitting : IsFittingInitial plan initial)
-    (one : length plan.domains ≡ 1) (calls : All CallsNothing plan.items) where
+    (one : length plan.domains ≡ 1) where
   -- domain 1 is the plan's
   first_domain : IsDomain plan 1
   first_domain = (omega arith, omega (arith, one))
 
   -- a phase can be run
-  runnable : (ph : Phase) → IsSoundPhase plan ph → IsRangedPhase ph → (parts_of ph.expr).calls ≡ [] → IsRunnable plan 1 ph
-  runnable ph s r none = record {
+  runnable : (ph : Phase) → IsSoundPhase plan ph → IsRangedPhase ph → IsRunnable plan 1 ph
+  runnable ph s r = record {
     writes = s.writes;
     divisors = λ k d h. (r.expr.divisors k d h).0;
-    calls = none;
     reads = λ k j i region n x h.
         let read = s.reads 1 first_domain n x h in
         record { level = read.level; inside = read.inside k j i region; levels = read.levels k j i region; above = read.above k j i region };
   }
 
   -- and so can each item be done
-  takeable : (it : Item) → IsSoundItem plan it → IsRangedItem it → CallsNothing it → IsTakeable plan 1 it
-  takeable (item.Halo parts) s r c = tt
-  takeable (item.Period parts) s r c = tt
-  takeable (item.Swap a b) s r c =
+  takeable : (it : Item) → IsSoundItem plan it → IsRangedItem it → IsTakeable plan 1 it
+  takeable (item.Halo parts) s r = tt
+  takeable (item.Period parts) s r = tt
+  takeable (item.Swap a b) s r =
       let pair = sound.pairs a s.0 in
       let is : (field_of plan a).pair ≡ b = s.1 in
       record {
@@ -81,12 +79,12 @@ module _ (plan : Plan) (initial : Initial) (sound : IsSoundPlan plan) (ranged : 
         rows = (λ n. (domain_of plan 1).jde - 1 + Rattle.wf_model.specs.Plans.extra (subst (λ (f : ℕ). (field_of plan f).stag_y ≡ (field_of plan a).stag_y) is pair.stag_y n) (domain_of plan 1).periodic_y);
         columns = (λ n. (domain_of plan 1).ide - 1 + Rattle.wf_model.specs.Plans.extra (subst (λ (f : ℕ). (field_of plan f).stag_x ≡ (field_of plan a).stag_x) is pair.stag_x n) (domain_of plan 1).periodic_x);
       }
-  takeable (item.Phase ph) s r c = runnable ph s r c
+  takeable (item.Phase ph) s r = runnable ph s r
 
   table : IsTable plan 1
   unfolding item_of field_of
   table = record {
-    items = λ n h. takeable (item_of plan n) (sound.items n no_item h) (ranged.items n no_item h) (calls n no_item h);
+    items = λ n h. takeable (item_of plan n) (sound.items n no_item h) (ranged.items n no_item h);
     few = λ f h. omega (arith, (ranged.fields f no_field h).nz.1);
     fields = ranged.limits.levels;
   }

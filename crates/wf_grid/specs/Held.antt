@@ -1,10 +1,7 @@
 -- What a run on whole domains holds, and what is left of it.
-use Rattle.std.specs.Prelude.{◌≡◌, [], ◌+◌, ◌^◌, ◌<◌, ◌≤◌, List, length, map, ℤ, Option, Some, None, Result, Ok, Err, slice_index_or}
+use Rattle.std.specs.Prelude.{◌≡◌, ◌+◌, ◌^◌, ◌<◌, ◌≤◌, List, length, map, ℤ, Option, Some, None, Result, Ok, Err, slice_index_or}
 use Rattle.wf_model.specs.declared.plan.Plan.{Plan}
 use Rattle.wf_model.specs.declared.initial.Initial.{Initial}
-use Rattle.wf_model.specs.declared.plan.Item.{Item}
-use Rattle.wf_model.specs.declared.plan.Item.TheVariants as item
-use Rattle.wf_model.specs.ExprFacts.{parts_of}
 use Rattle.wf_model.specs.Sound.{IsSoundPlan, IsRangedPlan, IsFittingInitial, IsSoundFirst}
 use Rattle.wf_model.specs.declared.point.Point.{Point}
 use Rattle.wf_model.specs.Plans.{domain_of, domains_of, begin_of}
@@ -59,10 +56,3 @@ pub record IsReady (plan : Plan) (initial : Initial) (scratch : List ℤ) : Type
   pub items : length plan.items < 2 ^ 32
   pub room : HasRoom plan 1 scratch
   pub steps : (begin_of initial.begins 1).steps + plan.steps < 2 ^ 64
-
--- no phase calls a stored function
-abbrev pub CallsNothing : Item → Type 0
-CallsNothing (item.Halo parts) = Unit {0}
-CallsNothing (item.Period parts) = Unit {0}
-CallsNothing (item.Swap one two) = Unit {0}
-CallsNothing (item.Phase ph) = (parts_of ph.expr).calls ≡ []

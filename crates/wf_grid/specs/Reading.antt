@@ -1,5 +1,5 @@
 -- What a phase reads at a point of a domain.
-use Rattle.std.specs.Prelude.{◌≡◌, ℕ, ◌≤◌, [], All, IsTrue, pos, ◌+ℤ◌, ◌≤ℤ◌}
+use Rattle.std.specs.Prelude.{ℕ, ◌≤◌, All, IsTrue, pos, ◌+ℤ◌, ◌≤ℤ◌}
 use Rattle.wf_model.specs.declared.plan.Phase.{Phase}
 use Rattle.wf_model.specs.Changes.{in_region}
 use Rattle.wf_model.specs.ExprFacts.{parts_of}
@@ -19,8 +19,7 @@ pub record IsReadable (plan : Plan) (d k j i : ℕ) (r : Read) : Type 0 where
 -- what a phase needs to be run in a domain
 pub record IsRunnable (plan : Plan) (d : ℕ) (ph : Phase) : Type 0 where
   pub writes : IsLevel plan ph.writes
-  -- no divisor is 0, and no stored function is called
+  -- no divisor is 0
   pub divisors : All (λ n. 1 ≤ n) (parts_of ph.expr).divisors
-  pub calls : (parts_of ph.expr).calls ≡ []
   -- each read at a point of the region meets a point of the domain
   pub reads : (k j i : ℕ) → IsTrue (in_region plan d ph k j i) → All (IsReadable plan d k j i) (reads_of ph.expr)

@@ -1,5 +1,5 @@
 -- How a run on whole domains ends that writes its files.
-use Rattle.std.specs.Prelude.{◌≡◌, ℕ, [], Option, Some, pos}
+use Rattle.std.specs.Prelude.{◌≡◌, ℕ, [], Option, Some}
 use Rattle.wf_io.specs.Files.{Rose}
 use Rattle.wf_model.specs.declared.finished.CoreError.{CoreError}
 use Rattle.wf_model.specs.declared.finished.CoreError.TheVariants.{Overflow, Store, Memory}
@@ -11,11 +11,7 @@ use Rattle.wf_model.specs.Letters.{Text}
 use Rattle.wf_model.specs.Outcome.{RunData, outcome_of}
 use Rattle.wf_model.specs.StoreRuns.{Ran, Stopped}
 use Rattle.wf_model.specs.Writes.{Summary, writes_of}
-use Rattle.wf_grid.specs.Held.{Held, run_of, point_at_end}
-
--- the run of what is held. Nothing is called, so no meaning of a stored function is asked for
-abbrev pub stepped : Held → RunData
-stepped w = run_of w (λ id xs. pos 0)
+use Rattle.wf_grid.specs.Held.{point_at_end}
 
 -- a summary as it is told, without memories
 abbrev pub finished_of : Summary → Finished

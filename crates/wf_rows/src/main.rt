@@ -25,11 +25,17 @@ mod script;
 
 use crate::script::Script;
 use anyhow::{Context, Result};
+use std::alloc::Global;
+use std::thread::Threads;
 use std::{env, fs};
 
-fn perform_file(rt: &HostRuntime, name: &str) -> Result<()> {
-    let text = fs::read_to_string(rt, name).context(format_args!("reading {name}"))?;
-    let mut script = Script::new(rt.alloc());
+fn perform_file<R: Threads + Sync + Print>(
+    rt: &R,
+    alloc: Global,
+    name: &str,
+    text: &str,
+) -> Result<()> {
+    let mut script = Script::new(alloc);
     for (before, line) in text.lines().enumerate() {
         script
             .perform(rt, line)
@@ -40,7 +46,9 @@ fn perform_file(rt: &HostRuntime, name: &str) -> Result<()> {
 
 fn main(rt: HostRuntime) -> Result<()> {
     for name in env::args(&rt)?.skip(1) {
-        perform_file(&rt, name.as_str())?;
+        let name = name.as_str();
+        let text = fs::read_to_string(&rt, name).context(format_args!("reading {name}"))?;
+        perform_file(&rt, rt.alloc(), name, &text)?;
     }
     Ok(())
 }

@@ -6,7 +6,10 @@ use anyhow::{Context, Result, bail, ensure};
 use md5::{Digest, Md5};
 use std::alloc::{AllocError, Global};
 use std::str;
+use std::thread::Threads;
+use wf_hooks::{Answering, HookTable};
 use wf_io::{MemSink, MemStore};
+use wf_shipped::{Shipped, shipped_answer, shipped_names};
 use wf_top::tool_main;
 
 /// The state between two lines of a data file.
@@ -41,6 +44,22 @@ fn words_of(alloc: Global, line: &str) -> Result<Vec<String>, AllocError> {
     Ok(words)
 }
 
+// Runs the program's words over a table of the shipped functions, which this one answers.
+fn run_tool<R: Threads + Sync, F: Answering<Shipped>>(
+    rt: &R,
+    alloc: Global,
+    words: &[String],
+    store: &mut MemStore,
+    sink: &mut MemSink,
+    function: F,
+) -> Result<u8>
+    requires { F.keeps function }
+{
+    let names = shipped_names(alloc)?;
+    let hooks: HookTable<Shipped, F> = HookTable::new(alloc, names.as_slice(), function)?;
+    Ok(tool_main(rt, alloc, words, store, sink, &hooks))
+}
+
 impl Script {
     pub fn new(alloc: Global) -> Script {
         Script {
@@ -58,7 +77,7 @@ impl Script {
     /// # Errors
     /// A line that is none of a data file, an edit of bytes that aren't there, want of memory, a
     /// failed print.
-    pub fn perform(&mut self, rt: &impl Print, line: &str) -> Result<()> {
+    pub fn perform<R: Threads + Sync + Print>(&mut self, rt: &R, line: &str) -> Result<()> {
         if line.is_empty() || line.starts_with('#') {
             return Ok(());
         }
@@ -136,7 +155,7 @@ impl Script {
         Ok(())
     }
 
-    fn run(&mut self, rt: &impl Print, line: &str) -> Result<()> {
+    fn run<R: Threads + Sync + Print>(&mut self, rt: &R, line: &str) -> Result<()> {
         let words = words_of(self.alloc, line)?;
         let mut sink = MemSink::new(self.alloc);
         for put in &self.puts {
@@ -146,7 +165,14 @@ impl Script {
         for (call, kept) in &self.calls {
             self.left.fail(*call, *kept)?;
         }
-        let status = tool_main(self.alloc, &words, &mut self.left, &mut sink);
+        let status = run_tool(
+            rt,
+            self.alloc,
+            &words,
+            &mut self.left,
+            &mut sink,
+            |id: u32, arguments: &[i64]| shipped_answer(id, arguments),
+        )?;
         let faults = self.left.count();
         println!(rt; "run {line}\nstatus {status} faults {faults}")?;
         print!(rt; "{}", str::from_utf8(sink.bytes())?)?;

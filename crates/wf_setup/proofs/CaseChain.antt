@@ -4,6 +4,7 @@ use Rattle.std.proofs.lemmas.List.Elements.{Contains-append_left}
 use Rattle.wf_model.specs.declared.config.Config.{Config}
 use Rattle.wf_model.specs.declared.plan.Item.{Item}
 use Rattle.wf_model.specs.declared.plan.Plan.{Plan}
+use Rattle.wf_model.specs.declared.table.HookName.{HookName}
 use Rattle.wf_model.specs.Reading.{◌>>=◌, Fails, told_as}
 use Rattle.wf_model.specs.Letters.{Text}
 use Rattle.wf_model.specs.KeptLines.{Defines}
@@ -18,32 +19,32 @@ use Rattle.wf_setup.proofs.ConfigChain.{second_fails, name_last}
 
 -- ---- table and plan
 
-pub plan_table_fails : (m : Files) (c : Config) (x : Option Refusal) → Fails x (table_text c [] (m (codes "stencil.table"))) → Fails x (plan_made [] m c)
+pub plan_table_fails : (hooks : List HookName) (m : Files) (c : Config) (x : Option Refusal) → Fails x (table_text c hooks (m (codes "stencil.table"))) → Fails x (plan_made hooks m c)
 unfolding plan_made
-plan_table_fails m c x fails = Fails-chain x (table_text c [] (m (codes "stencil.table"))) (λ items. told_as plan_refusal (plan_of c [] items)) fails
+plan_table_fails hooks m c x fails = Fails-chain x (table_text c hooks (m (codes "stencil.table"))) (λ items. told_as plan_refusal (plan_of c hooks items)) fails
 
-pub plan_with_table : (m : Files) (c : Config) (items : List Item) → table_text c [] (m (codes "stencil.table")) ≡ Ok items → plan_made [] m c ≡ told_as plan_refusal (plan_of c [] items)
+pub plan_with_table : (hooks : List HookName) (m : Files) (c : Config) (items : List Item) → table_text c hooks (m (codes "stencil.table")) ≡ Ok items → plan_made hooks m c ≡ told_as plan_refusal (plan_of c hooks items)
 unfolding plan_made
-plan_with_table m c items is = ap (λ (r : Result (List Item) Refusal). r >>= λ found. told_as plan_refusal (plan_of c [] found)) is
+plan_with_table hooks m c items is = ap (λ (r : Result (List Item) Refusal). r >>= λ found. told_as plan_refusal (plan_of c hooks found)) is
 
 -- ---- config and plan
 
-pub case_config_fails : (m : Files) (defines : Defines) (x : Option Refusal) → Fails x (config_read m defines) → Fails x (case_read m defines)
+pub case_config_fails : (hooks : List HookName) (m : Files) (defines : Defines) (x : Option Refusal) → Fails x (config_read m defines) → Fails x (case_read hooks m defines)
 unfolding case_read
-case_config_fails m defines x fails =
-    Fails-chain x (config_read m defines) (λ config. plan_made [] m config >>= λ plan. Ok (record { config = config; plan = plan })) fails
+case_config_fails hooks m defines x fails =
+    Fails-chain x (config_read m defines) (λ config. plan_made hooks m config >>= λ plan. Ok (record { config = config; plan = plan })) fails
 
-pub case_plan_fails : (m : Files) (defines : Defines) (x : Option Refusal) (c : Config) → config_read m defines ≡ Ok c → Fails x (plan_made [] m c) → Fails x (case_read m defines)
+pub case_plan_fails : (hooks : List HookName) (m : Files) (defines : Defines) (x : Option Refusal) (c : Config) → config_read m defines ≡ Ok c → Fails x (plan_made hooks m c) → Fails x (case_read hooks m defines)
 unfolding case_read
-case_plan_fails m defines x c is fails =
-    second_fails x (config_read m defines) c (λ config. plan_made [] m config >>= λ plan. Ok (record { config = config; plan = plan })) is
-    (Fails-chain x (plan_made [] m c) (λ plan. Ok (record { config = c; plan = plan })) fails)
+case_plan_fails hooks m defines x c is fails =
+    second_fails x (config_read m defines) c (λ config. plan_made hooks m config >>= λ plan. Ok (record { config = config; plan = plan })) is
+    (Fails-chain x (plan_made hooks m c) (λ plan. Ok (record { config = c; plan = plan })) fails)
 
-pub case_given : (m : Files) (defines : Defines) (c : Config) (p : Plan) → config_read m defines ≡ Ok c → plan_made [] m c ≡ Ok p
-    → case_read m defines ≡ Ok (record { config = c; plan = p })
+pub case_given : (hooks : List HookName) (m : Files) (defines : Defines) (c : Config) (p : Plan) → config_read m defines ≡ Ok c → plan_made hooks m c ≡ Ok p
+    → case_read hooks m defines ≡ Ok (record { config = c; plan = p })
 unfolding case_read
-case_given m defines c p c_is p_is =
-    ap (λ (r : Result Config Refusal). r >>= λ config. plan_made [] m config >>= λ plan. Ok (record { config = config; plan = plan })) c_is
+case_given hooks m defines c p c_is p_is =
+    ap (λ (r : Result Config Refusal). r >>= λ config. plan_made hooks m config >>= λ plan. Ok (record { config = config; plan = plan })) c_is
     ∙ ap (λ (r : Result Plan Refusal). r >>= λ plan. Ok (record { config = c; plan = plan })) p_is
 
 pub config_among : (m : Files) (defines : Defines) (q : Text) → Contains (config_names m defines) q → Contains (case_names m defines) q

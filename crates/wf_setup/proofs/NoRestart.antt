@@ -12,6 +12,7 @@ use Rattle.wf_model.specs.declared.registry.Registry.{Registry}
 use Rattle.wf_model.specs.declared.config.Config.{Config}
 use Rattle.wf_model.specs.declared.plan.Plan.{Plan}
 use Rattle.wf_model.specs.declared.plan.Item.{Item}
+use Rattle.wf_model.specs.declared.table.HookName.{HookName}
 use Rattle.wf_model.specs.declared.plan_fault.PlanFault.TheVariants.{NotBuilt}
 use Rattle.wf_model.specs.Config.{config_of, values_of}
 use Rattle.wf_model.specs.Calendar.{moment_of}
@@ -26,9 +27,9 @@ use Rattle.wf_model.specs.Sound.{IsSoundTime}
 use Rattle.wf_config_laws.specs.RangedValues.{HasRangedValues}
 use Rattle.wf_config_laws.proofs.Values.{bound_values_ranged}
 use Rattle.wf_registry_laws.proofs.Tests.{or_none, if_fails}
-use Rattle.wf_plan_laws.specs.PlanLaws.{IsSoundSinglePlan}
 use Rattle.wf_plan_laws.proofs.Tests.{plans_pass_their_tests}
 use Rattle.wf_stream.specs.Inputs.{StartsInTime}
+use Rattle.wf_setup.specs.SetUp.{IsSinglePlan}
 
 -- ---- the values of domain 1 ask for nothing
 
@@ -77,9 +78,9 @@ pub record UsesNoRestart (plan : Plan) : Type 0 where
 named : List ℕ → (Value → Bool) → Unbuilt
 named name asks = record { name = name; asks = asks }
 
-from_tests : (config : Config) (items : List Item) → HasRangedValues config → first_fault (map (unbuilt_fault config) unbuilt) ≡ None → UsesNoRestart (plan_from config [] items)
+from_tests : (config : Config) (hooks : List HookName) (items : List Item) → HasRangedValues config → first_fault (map (unbuilt_fault config) unbuilt) ≡ None → UsesNoRestart (plan_from config hooks items)
 unfolding plan_from named
-from_tests config items values e =
+from_tests config hooks items values e =
     let some : 1 ≤ domain_total config = values.own.max_dom.within.0 in
     let streams = map (λ s. named (codes "auxhist" ++ ((48 + s) ∷ codes "_interval")) (is_above 0)) (range_with_len 1 9) in
     let one = or_none (unbuilt_fault config (named (codes "max_dom") (is_above 1))) (map (unbuilt_fault config) until_restart) e in
@@ -94,18 +95,18 @@ from_tests config items values e =
           (none_above minutes (domain_total config) (amount config (codes "restart_interval") 1) some values.own.restart_interval.number none_asks);
     }
 
-pub no_restart : (registry : Registry) (namelist : Namelist) (config : Config) (items : List Item) (plan : Plan)
-    → config_of registry namelist ≡ Ok config → plan_of config [] items ≡ Ok plan → UsesNoRestart plan
-no_restart registry namelist config items plan bound given =
-    let tests = plans_pass_their_tests config [] items plan given in
-    subst UsesNoRestart tests.0 (from_tests config items (bound_values_ranged registry namelist config bound) tests.1.built)
+pub no_restart : (registry : Registry) (namelist : Namelist) (config : Config) (hooks : List HookName) (items : List Item) (plan : Plan)
+    → config_of registry namelist ≡ Ok config → plan_of config hooks items ≡ Ok plan → UsesNoRestart plan
+no_restart registry namelist config hooks items plan bound given =
+    let tests = plans_pass_their_tests config hooks items plan given in
+    subst UsesNoRestart tests.0 (from_tests config hooks items (bound_values_ranged registry namelist config bound) tests.1.built)
 
 -- ---- times
 
 starts_at : (start finish last begins : ℕ) → start + finish ≤ last → begins ≡ 0 → start + begins ≤ last
 starts_at start finish last begins h none = omega arith
 
-pub starts_in_time : (plan : Plan) → IsSoundSinglePlan plan → StartsInTime plan
+pub starts_in_time : (plan : Plan) → IsSinglePlan plan → StartsInTime plan
 starts_in_time plan single d is =
     let first : d ≡ 1 = omega (arith, is, single.single) in
     let begins : not_before (domain_of plan d).begins ≡ 0 =

@@ -6,6 +6,7 @@ use Rattle.wf_model.specs.declared.namelist.Namelist.{Namelist}
 use Rattle.wf_model.specs.declared.config.Config.{Config}
 use Rattle.wf_model.specs.declared.plan.Item.{Item}
 use Rattle.wf_model.specs.declared.plan.Plan.{Plan}
+use Rattle.wf_model.specs.declared.table.HookName.{HookName}
 use Rattle.wf_model.specs.Reading.{◌>>=◌, told_as, unless_fault}
 use Rattle.wf_model.specs.KeptLines.{Defines}
 use Rattle.wf_model.specs.Config.{config_of}
@@ -72,18 +73,18 @@ config_bound files defines config e =
     let two = was_read (namelist_text (files (codes "namelist.input"))) (bind one.value) config one.next_gives in
     (one.value, (two.value, was_told config_refusal (config_of one.value two.value) config two.next_gives))
 
-plan_given : (files : Files) (config : Config) (plan : Plan) → plan_made [] files config ≡ Ok plan → (items : List Item) × (plan_of config [] items ≡ Ok plan)
+plan_given : (hooks : List HookName) (files : Files) (config : Config) (plan : Plan) → plan_made hooks files config ≡ Ok plan → (items : List Item) × (plan_of config hooks items ≡ Ok plan)
 unfolding plan_made
-plan_given files config plan e =
-    let one = was_read (table_text config [] (files (codes "stencil.table"))) (λ items. told_as plan_refusal (plan_of config [] items)) plan e in
-    (one.value, was_told plan_refusal (plan_of config [] one.value) plan one.next_gives)
+plan_given hooks files config plan e =
+    let one = was_read (table_text config hooks (files (codes "stencil.table"))) (λ items. told_as plan_refusal (plan_of config hooks items)) plan e in
+    (one.value, was_told plan_refusal (plan_of config hooks one.value) plan one.next_gives)
 
-files_pass : (files : Files) (defines : Defines) (config : Config) (plan : Plan) → config_read files defines ≡ Ok config → plan_made [] files config ≡ Ok plan
+files_pass : (hooks : List HookName) (files : Files) (defines : Defines) (config : Config) (plan : Plan) → config_read files defines ≡ Ok config → plan_made hooks files config ≡ Ok plan
     → checked config plan ≡ Ok (config, plan)
-files_pass files defines config plan here made =
+files_pass hooks files defines config plan here made =
     let bound = config_bound files defines config here in
-    let given = plan_given files config plan made in
-    passes config plan (no_restart bound.0 bound.1.0 config given.0 plan bound.1.1 given.1)
+    let given = plan_given hooks files config plan made in
+    passes config plan (no_restart bound.0 bound.1.0 config hooks given.0 plan bound.1.1 given.1)
 
 -- ---- the law
 
@@ -113,13 +114,13 @@ module _ (check : Config → Plan → Result Planned Refusal) where
   case_refused (Ok config) next x e = plan_refused config (next config) x e
   case_refused (Err y) next x e = let same : y ≡ x = cc e in ap (λ (z : Refusal). let r : Result Planned Refusal = Err z in r) same
 
-given_same : (files : Files) (defines : Defines) → CaseIsPlanRead files defines
+given_same : (hooks : List HookName) (files : Files) (defines : Defines) → CaseIsPlanRead hooks files defines
 unfolding case_read plan_read
-given_same files defines c e = case_same checked (config_read files defines) (plan_made [] files) c (files_pass files defines) e
+given_same hooks files defines c e = case_same checked (config_read files defines) (plan_made hooks files) c (files_pass hooks files defines) e
 
-refused_same : (files : Files) (defines : Defines) → RefusalIsPlanRead files defines
+refused_same : (hooks : List HookName) (files : Files) (defines : Defines) → RefusalIsPlanRead hooks files defines
 unfolding case_read plan_read
-refused_same files defines x e = case_refused checked (config_read files defines) (plan_made [] files) x e
+refused_same hooks files defines x e = case_refused checked (config_read files defines) (plan_made hooks files) x e
 
 pub cases_are_plans_read : CasesArePlansRead
-cases_are_plans_read files defines = (given_same files defines, refused_same files defines)
+cases_are_plans_read hooks files defines = (given_same hooks files defines, refused_same hooks files defines)

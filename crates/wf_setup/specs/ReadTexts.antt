@@ -1,11 +1,12 @@
 -- Texts that were read, whether or not a store tells its files.
-use Rattle.std.specs.Prelude.{◌≡◌, ℕ, List, [], Ok}
+use Rattle.std.specs.Prelude.{◌≡◌, ℕ, List, Ok}
 use Rattle.wf_model.specs.declared.registry.SourceFile.{SourceFile}
 use Rattle.wf_model.specs.declared.registry.Registry.{Registry}
 use Rattle.wf_model.specs.declared.namelist.Namelist.{Namelist}
 use Rattle.wf_model.specs.declared.config.Config.{Config}
 use Rattle.wf_model.specs.declared.plan.Item.{Item}
 use Rattle.wf_model.specs.declared.plan.Plan.{Plan}
+use Rattle.wf_model.specs.declared.table.HookName.{HookName}
 use Rattle.wf_model.specs.KeptLines.{Defines}
 use Rattle.wf_model.specs.Registry.{registry_of}
 use Rattle.wf_model.specs.Config.{config_of}
@@ -32,13 +33,13 @@ pub record IsBoundConfig (defines : Defines) (c : Config) : Type 0 where
   pub read : IsReadRegistry defines registry
   pub bound : config_of registry namelist ≡ Ok c
 
--- the items of some table
-pub record IsTableOf (config : Config) (items : List Item) : Type 0 where
+-- the items of some table, which calls these functions
+pub record IsTableOf (hooks : List HookName) (config : Config) (items : List Item) : Type 0 where
   pub text : List ℕ
-  pub read : table_of text (names_of config []) ≡ Ok items
+  pub read : table_of text (names_of config hooks) ≡ Ok items
 
 -- the plan of a config and of some table
-pub record IsPlanOf (config : Config) (plan : Plan) : Type 0 where
+pub record IsPlanOf (hooks : List HookName) (config : Config) (plan : Plan) : Type 0 where
   pub items : List Item
-  pub table : IsTableOf config items
-  pub planned : plan_of config [] items ≡ Ok plan
+  pub table : IsTableOf hooks config items
+  pub planned : plan_of config hooks items ≡ Ok plan

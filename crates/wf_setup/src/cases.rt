@@ -1,11 +1,13 @@
 //! A case: the config of a store, and the plan of it and of the stencil table.
 
-ghost use Rattle.std.specs.Prelude.{◌≡◌, [], Ok, Some, IfOk, IfErr, codes};
+ghost use Rattle.std.specs.Prelude.{◌≡◌, All, Ok, Some, IfOk, IfErr, codes};
 ghost use Rattle.wf_model.specs.Reading.{Gives, told_as};
 ghost use Rattle.wf_model.specs.Files.{Files};
 ghost use Rattle.wf_model.specs.FilesRead.{plan_made, table_text};
 ghost use Rattle.wf_model.specs.PlanOf.{plan_of};
 ghost use Rattle.wf_model.specs.Refusals.{plan_refusal};
+ghost use Rattle.wf_model.specs.Sound.{CallsHooks};
+ghost use Rattle.wf_table_laws.specs.Premises.{HasRangedArity};
 ghost use Rattle.wf_setup.specs.Errors.{refusal_of, NoFault, FaultOn, FaultTold};
 ghost use Rattle.wf_setup.specs.Asked.{OnlyRead, FaultAmong, case_names};
 ghost use Rattle.wf_setup.specs.Cases.{case_read};
@@ -31,13 +33,17 @@ pub struct Case {
 }
 
 #[tactic(auto, using(crate::proofs::Faults::tells_no_fault))]
-fn items_of_text(alloc: Global, config: &Config, text: &[u8]) -> Result<List<Item>, SetupError>
-    ensures table { IfOk result (IsTableOf config.now) }
-    ensures items { Gives (λ i. i) refusal_of result (table_text config.now [] (Some text.now)) }
+fn items_of_text(
+    alloc: Global,
+    config: &Config,
+    text: &[u8],
+    hooks: &[HookName],
+) -> Result<List<Item>, SetupError>
+    ensures table { IfOk result (IsTableOf hooks.now config.now) }
+    ensures items { Gives (λ i. i) refusal_of result (table_text config.now hooks.now (Some text.now)) }
     ensures never { IfErr result NoFault }
 {
-    let hooks: [HookName; 0] = [];
-    let names = match names(alloc, config, &hooks) {
+    let names = match names(alloc, config, hooks) {
         Ok(names) => names,
         Err(_) => return Err(SetupError::Memory),
     };
@@ -54,29 +60,34 @@ fn items_of_store<S: Store>(
     alloc: Global,
     store: &mut S,
     config: &Config,
+    hooks: &[HookName],
 ) -> Result<List<Item>, SetupError>
-    ensures table { IfOk result (IsTableOf config.now) }
-    ensures items { (m : Files) → S.files store.old ≡ Some m → Gives (λ i. i) refusal_of result (table_text config.now [] (m (codes "stencil.table"))) }
+    ensures table { IfOk result (IsTableOf hooks.now config.now) }
+    ensures items { (m : Files) → S.files store.old ≡ Some m → Gives (λ i. i) refusal_of result (table_text config.now hooks.now (m (codes "stencil.table"))) }
     ensures only { OnlyRead (S.files store.old) (S.files store.new) (S.faults store.old) (S.faults store.new) }
     ensures fault { IfErr result (λ e. FaultTold e (S.faults store.old) (S.faults store.new) (S.failed store.new)) }
     ensures on { IfErr result (λ e. FaultOn e (codes "stencil.table")) }
 {
     match store.read(alloc, "stencil.table") {
         Ok(None) => Err(numbered(alloc, 4, b"table", 0, b"MissingFile")),
-        Ok(Some(text)) => items_of_text(alloc, config, &text),
+        Ok(Some(text)) => items_of_text(alloc, config, &text, hooks),
         Err(error) => Err(io_error(alloc, "stencil.table", error)),
     }
 }
 
-/// The plan of a config and of the items of its table, where no functions are stored.
+/// The plan of a config and of the items of its table, where these functions are stored.
 #[tactic(auto, using(crate::proofs::Faults::tells_no_fault))]
-fn plan_of_items(alloc: Global, config: &Config, items: List<Item>) -> Result<Plan, SetupError>
-    ensures planned { IfOk result (λ p. plan_of config.now [] items ≡ Ok p) }
-    ensures plan { Gives (λ p. p) refusal_of result (told_as plan_refusal (plan_of config.now [] items)) }
+fn plan_of_items(
+    alloc: Global,
+    config: &Config,
+    items: List<Item>,
+    hooks: &[HookName],
+) -> Result<Plan, SetupError>
+    ensures planned { IfOk result (λ p. plan_of config.now hooks.now items ≡ Ok p) }
+    ensures plan { Gives (λ p. p) refusal_of result (told_as plan_refusal (plan_of config.now hooks.now items)) }
     ensures never { IfErr result NoFault }
 {
-    let hooks: [HookName; 0] = [];
-    match plan(alloc, config, items, &hooks) {
+    match plan(alloc, config, items, hooks) {
         Ok(plan) => Ok(plan),
         Err(PlanError::Memory) => Err(SetupError::Memory),
         Err(PlanError::Fault(fault)) => Err(plan_refusal(alloc, &fault)),
@@ -89,21 +100,22 @@ fn plan_of_store<S: Store>(
     alloc: Global,
     store: &mut S,
     config: &Config,
+    hooks: &[HookName],
 ) -> Result<Plan, SetupError>
-    ensures planned { IfOk result (IsPlanOf config.now) }
-    ensures plan { (m : Files) → S.files store.old ≡ Some m → Gives (λ p. p) refusal_of result (plan_made [] m config.now) }
+    ensures planned { IfOk result (IsPlanOf hooks.now config.now) }
+    ensures plan { (m : Files) → S.files store.old ≡ Some m → Gives (λ p. p) refusal_of result (plan_made hooks.now m config.now) }
     ensures only { OnlyRead (S.files store.old) (S.files store.new) (S.faults store.old) (S.faults store.new) }
     ensures fault { IfErr result (λ e. FaultTold e (S.faults store.old) (S.faults store.new) (S.failed store.new)) }
     ensures on { IfErr result (λ e. FaultOn e (codes "stencil.table")) }
 {
-    match items_of_store(alloc, store, config) {
-        Ok(items) => plan_of_items(alloc, config, items),
+    match items_of_store(alloc, store, config, hooks) {
+        Ok(items) => plan_of_items(alloc, config, items, hooks),
         Err(error) => Err(error),
     }
 }
 
 /// The case of a store: its config, as [`read_config`] reads it, and then the plan of it and of `stencil.table`, which
-/// calls no stored functions.
+/// calls stored functions of these names.
 ///
 /// Also where the store does not tell its files, the plan is sound, with one domain that starts within the years 1 to 9999,
 /// is no restart and writes no restart files. So the begin data of its run can be read.
@@ -115,9 +127,12 @@ pub fn read_case<S: Store>(
     alloc: Global,
     store: &mut S,
     defines: &[(Name, Name)],
+    hooks: &[HookName],
 ) -> Result<Case, SetupError>
+    requires { All HasRangedArity hooks.now }
     ensures sound { IfOk result (λ c. IsSetUp c.plan) }
-    ensures case { (m : Files) → S.files store.old ≡ Some m → Gives (λ c. c) refusal_of result (case_read m defines.now) }
+    ensures calls { IfOk result (λ c. All (CallsHooks hooks.now) c.plan.items) }
+    ensures case { (m : Files) → S.files store.old ≡ Some m → Gives (λ c. c) refusal_of result (case_read hooks.now m defines.now) }
     ensures only { OnlyRead (S.files store.old) (S.files store.new) (S.faults store.old) (S.faults store.new) }
     ensures fault { IfErr result (λ e. FaultTold e (S.faults store.old) (S.faults store.new) (S.failed store.new)) }
     ensures asked { IfErr result (λ e. (m : Files) → S.files store.old ≡ Some m → FaultAmong e (case_names m defines.now)) }
@@ -126,7 +141,7 @@ pub fn read_case<S: Store>(
         Ok(config) => config,
         Err(error) => return Err(error),
     };
-    match plan_of_store(alloc, store, &config) {
+    match plan_of_store(alloc, store, &config, hooks) {
         Ok(plan) => Ok(Case { config, plan }),
         Err(error) => Err(error),
     }

@@ -1,10 +1,14 @@
-//! The program `wrftool`: the top call over the folder that it starts in and the standard output.
+//! The program `wrftool`: the top call over the folder that it starts in, the standard output and the shipped functions.
 #![tactic(auto)]
 
+use std::alloc::Global;
 use std::env;
 use std::io::ErrorKind;
 use std::process::ExitCode;
-use wf_io::{DirStore, StdSink};
+use std::thread::Threads;
+use wf_hooks::{Answering, HookError, HookTable};
+use wf_io::{DirStore, Sink, StdSink, Store};
+use wf_shipped::{Shipped, shipped_answer, shipped_names};
 use wf_top::tool_main;
 
 const MEMORY: u8 = 10;
@@ -28,6 +32,32 @@ fn words(rt: &HostRuntime) -> Option<Vec<String>> {
     Some(words)
 }
 
+/// Runs a command over a table of the shipped functions, which this one answers.
+fn run<R: Threads + Sync, S: Store, O: Sink, F: Answering<Shipped>>(
+    rt: &R,
+    alloc: Global,
+    words: &[String],
+    store: &mut S,
+    out: &mut O,
+    function: F,
+) -> u8
+    requires { F.keeps function }
+{
+    let Ok(names) = shipped_names(alloc) else {
+        return MEMORY;
+    };
+    // no two shipped functions have one name
+    let made: Result<HookTable<Shipped, F>, HookError> = HookTable::new(
+        alloc,
+        names.as_slice(),
+        function,
+    );
+    let Ok(hooks) = made else {
+        return MEMORY;
+    };
+    tool_main(rt, alloc, words, store, out, &hooks)
+}
+
 fn main(rt: HostRuntime) -> ExitCode {
     let Some(words) = words(&rt) else {
         return ExitCode::from(MEMORY);
@@ -36,5 +66,13 @@ fn main(rt: HostRuntime) -> ExitCode {
         return ExitCode::from(MEMORY);
     };
     let mut out = StdSink::new(rt);
-    ExitCode::from(tool_main(rt.alloc(), words.as_slice(), &mut store, &mut out))
+    let status = run(
+        &rt,
+        rt.alloc(),
+        words.as_slice(),
+        &mut store,
+        &mut out,
+        |id: u32, arguments: &[i64]| shipped_answer(id, arguments),
+    );
+    ExitCode::from(status)
 }

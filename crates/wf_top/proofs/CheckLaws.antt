@@ -1,6 +1,7 @@
 -- How `check` ends.
 use Rattle.std.proofs.Common.{◌≡◌, sym, refl, subst, ℕ, List, Option, Some, None, Result, Contains, inl, inr}
 use Rattle.wf_io.specs.Files.{Told}
+use Rattle.wf_model.specs.declared.table.HookName.{HookName}
 use Rattle.wf_model.specs.KeptLines.{Defines}
 use Rattle.wf_model.specs.Files.{Files}
 use Rattle.wf_model.specs.Letters.{Text}
@@ -28,13 +29,13 @@ read_failed asked fs gs before after failed Says name text fault among only same
   said = subst (λ (q : List ℕ). Says 9 (store_text q)) (sym fault.last) (subst (Says 9) same said);
 }
 
-module _ (defines : Defines) (fs gs : Option Files) (before after : ℕ) (failed : List ℕ) (Says : ℕ → List ℕ → Type 0) where
+module _ (hooks : List HookName) (defines : Defines) (fs gs : Option Files) (before after : ℕ) (failed : List ℕ) (Says : ℕ → List ℕ → Type 0) where
   -- what was read was answered
-  pub check_answered : (read : Result Case Refusal) (text : List ℕ) → ((m : Files) → fs ≡ Some m → case_read m defines ≡ read) → OnlyRead fs gs before after
-      → text ≡ (read_answer read).text → Says (read_answer read).status text → CheckEnded defines fs gs before after failed Says
+  pub check_answered : (read : Result Case Refusal) (text : List ℕ) → ((m : Files) → fs ≡ Some m → case_read hooks m defines ≡ read) → OnlyRead fs gs before after
+      → text ≡ (read_answer read).text → Says (read_answer read).status text → CheckEnded hooks defines fs gs before after failed Says
   check_answered read text is only same said =
       inl (record { read = read; is = λ m e. sym (is m e); files = only.same; said = subst (Says (read_answer read).status) same said })
 
   -- memory was wanting
-  pub check_lacked : OnlyRead fs gs before after → Says 10 memory_text → CheckEnded defines fs gs before after failed Says
+  pub check_lacked : OnlyRead fs gs before after → Says 10 memory_text → CheckEnded hooks defines fs gs before after failed Says
   check_lacked only said = inr (inr (record { files = only.same; said = said }))

@@ -7,7 +7,7 @@ use Rattle.wf_model.specs.StoreRuns.{Ran, Stopped, IsPrefix, FirstMayLeave}
 use Rattle.wf_model.specs.Failed.{Failed, IsFailed, FirstFails}
 use Rattle.wf_model.specs.Refusals.{Refusal}
 use Rattle.wf_model.specs.Outcome.{RunData}
-use Rattle.wf_model.specs.Answer.{Answer, refused}
+use Rattle.wf_model.specs.Answer.{Answer, Outside, refused}
 use Rattle.wf_model.proofs.StoreRunLaws.{told_then, told_weaker, prefix_none}
 use Rattle.wf_setup.specs.Asked.{OnlyRead}
 use Rattle.wf_setup.proofs.Stores.{rose_later}
@@ -64,43 +64,43 @@ calls_later answer fs hs gs before between after failed Says only (inr (inr lack
 -- ---- the command
 
 -- what is read of a store that tells its files
-reading : Defines → Option Files → Result RunData Refusal
-reading defines None = Err (record { status = 0; line = [] })
-reading defines (Some m) = run_read m defines
+reading : Outside → Defines → Option Files → Result RunData Refusal
+reading outside defines None = Err (record { status = 0; line = [] })
+reading outside defines (Some m) = run_read outside m defines
 
-reading_is : (defines : Defines) (fs : Option Files) (m : Files) → fs ≡ Some m → answer_to (reading defines fs) ≡ plain_answer m defines
+reading_is : (outside : Outside) (defines : Defines) (fs : Option Files) (m : Files) → fs ≡ Some m → answer_to (reading outside defines fs) ≡ plain_answer outside m defines
 unfolding reading
-reading_is defines fs m e = ap (λ (o : Option Files). answer_to (reading defines o)) e ∙ answer_is m defines
+reading_is outside defines fs m e = ap (λ (o : Option Files). answer_to (reading outside defines o)) e ∙ answer_is outside m defines
 
-module _ (defines : Defines) (fs gs : Option Files) (before after : ℕ) (failed : List ℕ) (Says : ℕ → List ℕ → Type 0) where
+module _ (outside : Outside) (defines : Defines) (fs gs : Option Files) (before after : ℕ) (failed : List ℕ) (Says : ℕ → List ℕ → Type 0) where
   -- all was read
-  pub plain_ran : (hs : Option Files) (between : ℕ) (r : RunData) → ((m : Files) → fs ≡ Some m → run_read m defines ≡ Ok r) → OnlyRead fs hs before between
-      → CallsEnded (whole_answer r) hs gs between after failed Says → PlainEnded defines fs gs before after failed Says
+  pub plain_ran : (hs : Option Files) (between : ℕ) (r : RunData) → ((m : Files) → fs ≡ Some m → run_read outside m defines ≡ Ok r) → OnlyRead fs hs before between
+      → CallsEnded (whole_answer r) hs gs between after failed Says → PlainEnded outside defines fs gs before after failed Says
   plain_ran hs between r is only ended =
       inl (record {
         answer = whole_answer r;
-        is = record { read = Ok r; of_read = refl; told = λ m e. ap answer_to (sym (is m e)) ∙ answer_is m defines };
+        is = record { read = Ok r; of_read = refl; told = λ m e. ap answer_to (sym (is m e)) ∙ answer_is outside m defines };
         ended = calls_later (whole_answer r) fs hs gs before between after failed Says only ended;
       })
 
   -- a file is refused
-  pub plain_refused : (x : Refusal) (text : List ℕ) → ((m : Files) → fs ≡ Some m → run_read m defines ≡ Err x) → OnlyRead fs gs before after
-      → text ≡ x.line → Says x.status text → PlainEnded defines fs gs before after failed Says
+  pub plain_refused : (x : Refusal) (text : List ℕ) → ((m : Files) → fs ≡ Some m → run_read outside m defines ≡ Err x) → OnlyRead fs gs before after
+      → text ≡ x.line → Says x.status text → PlainEnded outside defines fs gs before after failed Says
   plain_refused x text is only same said =
       inl (record {
         answer = refused x;
-        is = record { read = Err x; of_read = refl; told = λ m e. ap answer_to (sym (is m e)) ∙ answer_is m defines };
+        is = record { read = Err x; of_read = refl; told = λ m e. ap answer_to (sym (is m e)) ∙ answer_is outside m defines };
         ended = inl (record { files = only.same; said = subst (Says x.status) same said });
       })
 
   -- memory was wanting
-  pub plain_lacked : OnlyRead fs gs before after → Says 10 memory_text → PlainEnded defines fs gs before after failed Says
+  pub plain_lacked : OnlyRead fs gs before after → Says 10 memory_text → PlainEnded outside defines fs gs before after failed Says
   plain_lacked only said =
       inl (record {
-        answer = answer_to (reading defines fs);
-        is = record { read = reading defines fs; of_read = refl; told = reading_is defines fs };
+        answer = answer_to (reading outside defines fs);
+        is = record { read = reading outside defines fs; of_read = refl; told = reading_is outside defines fs };
         ended = inr (inr (record {
-          files = told_weaker fs gs (λ m n. n ≡ m) (IsPrefix (answer_to (reading defines fs)).calls) only.same (prefix_none (answer_to (reading defines fs)).calls);
+          files = told_weaker fs gs (λ m n. n ≡ m) (IsPrefix (answer_to (reading outside defines fs)).calls) only.same (prefix_none (answer_to (reading outside defines fs)).calls);
           said = said;
         }));
       })

@@ -4,6 +4,7 @@ use Rattle.std.specs.Str.{bytes_eq}
 use Rattle.wf_model.specs.Letters.{Text}
 use Rattle.wf_model.specs.KeptLines.{Defines}
 use Rattle.wf_model.specs.Files.{Files}
+use Rattle.wf_model.specs.Answer.{Outside}
 use Rattle.wf_model.specs.Demo.{word_at, usage, tool_answer}
 use Rattle.wf_words.specs.Commands.{check_words, plain_words}
 use Rattle.wf_top.specs.Ends.{Ended}
@@ -25,11 +26,11 @@ abbrev pub is_command : Text → List Text → Bool
 is_command name words = bytes_eq (word_at words 0) name
 
 -- whether it is `check`, and whether it is `plain`
-abbrev pub EndedAs : (is_check is_plain : Bool) → List Text → Ending
-EndedAs true plain words = WordsEnded CheckEnded (check_words words)
-EndedAs false true words = WordsEnded PlainEnded (plain_words words)
-EndedAs false false words = Ended (tool_answer words)
+abbrev pub EndedAs : Outside → (is_check is_plain : Bool) → List Text → Ending
+EndedAs outside true plain words = WordsEnded (CheckEnded outside.hooks) (check_words words)
+EndedAs outside false true words = WordsEnded (PlainEnded outside) (plain_words words)
+EndedAs outside false false words = Ended (tool_answer words)
 
--- how a command ends, by its words
-abbrev pub ToolEnded : List Text → Ending
-ToolEnded words = EndedAs (is_command (codes "check") words) (is_command (codes "plain") words) words
+-- how a command ends, by its words and by the stored functions
+abbrev pub ToolEnded : Outside → List Text → Ending
+ToolEnded outside words = EndedAs outside (is_command (codes "check") words) (is_command (codes "plain") words) words

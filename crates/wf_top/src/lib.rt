@@ -1,6 +1,7 @@
 //! The top calls: from a command's words to its files, its text and its status.
 #![tactic(auto)]
 
+mod case;
 mod cells;
 mod check_text;
 mod checks;

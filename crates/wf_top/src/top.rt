@@ -5,9 +5,11 @@ ghost use Rattle.wf_io.specs.Files.{Counted};
 ghost use Rattle.wf_model.specs.StoreRuns.{Ran, Stopped};
 ghost use Rattle.wf_model.specs.Answer.{summary_line, memory_text, how};
 ghost use Rattle.wf_model.specs.Demo.{demo_file, demo_calls, demo_summary, demo_memories, demo_answer, tool_answer};
+ghost use Rattle.wf_hooks.specs.Accepts.{AcceptsHooks};
 ghost use Rattle.wf_top.specs.Limits.{InLimits};
 ghost use Rattle.wf_model.specs.Failed.{Failed};
 ghost use Rattle.wf_top.specs.Ends.{Said, Ended};
+ghost use Rattle.wf_top.specs.Plain.{storing};
 ghost use Rattle.wf_top.specs.Tool.{ToolEnded};
 
 use crate::checks::end_check;
@@ -19,6 +21,8 @@ use crate::say::say;
 use crate::text::{demo_text, too_many_patches};
 use crate::words::{is_command, read_words};
 use std::alloc::Global;
+use std::thread::Threads;
+use wf_hooks::{Answering, HookTable, Meanings};
 use wf_io::{IoError, Sink, Store};
 use wf_model::Demo;
 
@@ -88,7 +92,9 @@ fn end_other<S: Store, O: Sink>(alloc: Global, words: &[String], store: &mut S, 
 
 /// Runs a command of `wrftool` and gives its status.
 ///
-/// `words` are those after the program's name. The commands are:
+/// `words` are those after the program's name. The table may call the functions that `hooks` stores; each has at most 8
+/// arguments and accepts every list of so many numbers of 64 bits. Whatever `rt` starts is joined before the call returns, and
+/// nothing waits for anything else; today no command starts a thread. The commands are:
 /// - `demo NX NY STEPS PX [--memory]`: a built-in field of NX by NY points, from 1 to 200 each, is stepped STEPS times, from
 ///   0 to 100, on PX column patches, from 1 to 256, and written frame by frame to the file `wrfout_d01_2000-01-01_00:00:00`
 ///   of the store.
@@ -116,19 +122,22 @@ fn end_other<S: Store, O: Sink>(alloc: Global, words: &[String], store: &mut S, 
 ///
 /// `check` leaves the files of the store as they were, and so do 1 to 7. After 9, 10 and 11 of `demo` and `plain` a first part
 /// of the calls of a whole run was made.
-pub fn tool_main<S: Store, O: Sink>(
+pub fn tool_main<R: Threads + Sync, S: Store, O: Sink, M: Meanings, F: Answering<M>>(
+    _rt: &R,
     alloc: Global,
     words: &[String],
     store: &mut S,
     out: &mut O,
+    hooks: &HookTable<M, F>,
 ) -> u8
-    ensures { ToolEnded (map string_bytes words.now) (S.files store.old) (S.files store.new) (S.faults store.old) (S.faults store.new) (S.failed store.new)
+    requires { AcceptsHooks M.accepts hooks.now }
+    ensures { ToolEnded (storing hooks.now M.answer) (map string_bytes words.now) (S.files store.old) (S.files store.new) (S.faults store.old) (S.faults store.new) (S.failed store.new)
         (λ status text. Said status text (O.taken out.old) (O.taken out.new) (O.faults out.old) (O.faults out.new) result) }
 {
     if is_command("check", words) {
-        end_check(alloc, words, store, out)
+        end_check(alloc, words, store, out, hooks)
     } else if is_command("plain", words) {
-        end_plain(alloc, words, store, out)
+        end_plain(alloc, words, store, out, hooks)
     } else {
         end_other(alloc, words, store, out)
     }

@@ -28,12 +28,12 @@ returns-in-Err-next-clause-error g c =
     memory_ends g.N.RunName.run s.frames s.place s.levels (g.S.Store.files c.args.store.now) (g.S.Store.files s.store) s.invariant.going
 
 pub take_items-requires-clause-order : goal.take_items-requires-clause-order
-take_items-requires-clause-order g c =
+take_items-requires-clause-order g c κs l =
     let s = c.loop-next in
     order g.N.RunName.run s.frames s.place s.levels (g.S.Store.files c.args.store.now) (g.S.Store.files s.store) s.invariant.going c.in-Ok-next.next c.in-Ok-next.ensures.frame c.place_of-end.result c.place_of-end.ensures
 
 pub take_items-requires-clause-within : goal.take_items-requires-clause-within
-take_items-requires-clause-within g c =
+take_items-requires-clause-within g c κs l =
     let s = c.loop-next in
     within g.N.RunName.run s.frames s.place s.levels (g.S.Store.files c.args.store.now) (g.S.Store.files s.store) s.invariant.going c.in-Ok-next.next c.in-Ok-next.ensures.frame c.place_of-end.result c.place_of-end.ensures
 

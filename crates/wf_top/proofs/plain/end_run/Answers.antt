@@ -5,14 +5,14 @@ use Rattle.wf_model.specs.Answer.{summary_line, overflow_line}
 use Rattle.wf_model.proofs.StoreRunLaws.{stopped_none, stopped_whole}
 use Rattle.wf_grid.specs.RunEnds.{EndsByOverflow, EndsByFault}
 use Rattle.wf_top.specs.Ends.{Said, store_text}
-use Rattle.wf_top.specs.Plain.{run_from, whole_answer}
+use Rattle.wf_top.specs.Plain.{run_from, storing, whole_answer}
 use Rattle.wf_top.proofs.RunLaws.{ran_whole, ran_over, calls_are}
 use Rattle.wf_top.proofs.PlainLaws.{calls_made, call_failed, calls_lacked, stopped_failed}
 use Rattle.wf_top.proofs.plain.end_run.Goals as goal
 
 pub returns-in-Err : goal.returns-in-Err
 returns-in-Err g c =
-    let r = run_from c.args.run.plan c.args.run.initial in
+    let r = run_from (storing c.args.hooks.now g.M.Meanings.answer) c.args.run.plan c.args.run.initial in
     let fs = g.S.Store.files c.args.store.now in
     calls_lacked (whole_answer r) fs fs (g.S.Store.faults c.args.store.now) (g.S.Store.faults c.args.store.now) (g.S.Store.failed c.args.store.now)
     (λ status text. Said status text (g.O.Sink.taken c.args.out.now) (g.O.Sink.taken c.say.new.out) (g.O.Sink.faults c.args.out.now) (g.O.Sink.faults c.say.new.out) c.say.result)
@@ -20,7 +20,7 @@ returns-in-Err g c =
 
 pub returns-in-Ok-summary_text : goal.returns-in-Ok-summary_text
 returns-in-Ok-summary_text g c =
-    let r = run_from c.args.run.plan c.args.run.initial in
+    let r = run_from (storing c.args.hooks.now g.M.Meanings.answer) c.args.run.plan c.args.run.initial in
     let fs = g.S.Store.files c.args.store.now in
     let gs = g.S.Store.files c.step_run.new.store in
     let i = g.S.Store.faults c.args.store.now in
@@ -34,7 +34,7 @@ returns-in-Ok-summary_text g c =
 
 pub returns-in-Ok-step_run : goal.returns-in-Ok-step_run
 returns-in-Ok-step_run g c =
-    let r = run_from c.args.run.plan c.args.run.initial in
+    let r = run_from (storing c.args.hooks.now g.M.Meanings.answer) c.args.run.plan c.args.run.initial in
     let fs = g.S.Store.files c.args.store.now in
     let gs = g.S.Store.files c.step_run.new.store in
     let i = g.S.Store.faults c.args.store.now in
@@ -46,7 +46,7 @@ returns-in-Ok-step_run g c =
 
 pub returns-in-Ok-overflow_text : goal.returns-in-Ok-overflow_text
 returns-in-Ok-overflow_text g c =
-    let r = run_from c.args.run.plan c.args.run.initial in
+    let r = run_from (storing c.args.hooks.now g.M.Meanings.answer) c.args.run.plan c.args.run.initial in
     let fs = g.S.Store.files c.args.store.now in
     let gs = g.S.Store.files c.step_run.new.store in
     let i = g.S.Store.faults c.args.store.now in
@@ -61,7 +61,7 @@ returns-in-Ok-overflow_text g c =
 
 pub returns-in-Err-Overflow : goal.returns-in-Err-Overflow
 returns-in-Err-Overflow g c =
-    let r = run_from c.args.run.plan c.args.run.initial in
+    let r = run_from (storing c.args.hooks.now g.M.Meanings.answer) c.args.run.plan c.args.run.initial in
     let fs = g.S.Store.files c.args.store.now in
     let gs = g.S.Store.files c.step_run.new.store in
     let i = g.S.Store.faults c.args.store.now in
@@ -74,7 +74,7 @@ returns-in-Err-Overflow g c =
 
 pub returns-in-Ok-store_text : goal.returns-in-Ok-store_text
 returns-in-Ok-store_text g c =
-    let r = run_from c.args.run.plan c.args.run.initial in
+    let r = run_from (storing c.args.hooks.now g.M.Meanings.answer) c.args.run.plan c.args.run.initial in
     let fs = g.S.Store.files c.args.store.now in
     let gs = g.S.Store.files c.step_run.new.store in
     let i = g.S.Store.faults c.args.store.now in
@@ -88,7 +88,7 @@ returns-in-Ok-store_text g c =
 
 pub returns-in-Err-Store : goal.returns-in-Err-Store
 returns-in-Err-Store g c =
-    let r = run_from c.args.run.plan c.args.run.initial in
+    let r = run_from (storing c.args.hooks.now g.M.Meanings.answer) c.args.run.plan c.args.run.initial in
     let fs = g.S.Store.files c.args.store.now in
     let gs = g.S.Store.files c.step_run.new.store in
     let i = g.S.Store.faults c.args.store.now in
@@ -101,7 +101,7 @@ returns-in-Err-Store g c =
 
 pub returns : goal.returns
 returns g c =
-    let r = run_from c.args.run.plan c.args.run.initial in
+    let r = run_from (storing c.args.hooks.now g.M.Meanings.answer) c.args.run.plan c.args.run.initial in
     let fs = g.S.Store.files c.args.store.now in
     let gs = g.S.Store.files c.step_run.new.store in
     let i = g.S.Store.faults c.args.store.now in
