@@ -46,6 +46,12 @@ def periodic_row(folder):
         a = a[-1:] + a[:-1]
 
 
+def relaxed(folder):
+    a = read(folder, "A", 2)
+    yield {"A": a, "B": [0] * 2}
+    yield {"A": [number + (100 - number) // 4 for number in a], "B": [0] * 2}
+
+
 def staggered(folder):
     q = read(folder, "Q", 3, 6, 8)
     u = [[[0] * 9 for _ in range(6)] for _ in range(3)]
@@ -85,6 +91,7 @@ def waves(folder):
 FILES = {
     "base": ["wrfout_d01_2000-01-01_00:00:00"],
     "periodic_row": [f"wrfout_d01_2000-01-01_00:0{n}:00" for n in (0, 2, 4)],
+    "relaxed": ["wrfout_d01_2000-01-01_00:00:00"],
     "staggered": ["wrfout_d01_2000-01-01_00:00:00"],
     "waves": ["wrfout_d01_2000-01-01_00:00:00"],
 }
