@@ -1,6 +1,6 @@
 """Times the command `plain` and the same run written plainly in Rust, in turn, for bench/run: the least time of many
 rounds. Both read the same input file of 1001 by 500 points, take 10 steps of a table of two phases, and write three
-records."""
+records. The same of a table of one phase that calls a stored function, which plain Rust finds by a `match`."""
 import os
 import shutil
 import subprocess
@@ -40,28 +40,32 @@ def output():
 
 def main():
     proved, plain, top = (os.path.abspath(word) for word in sys.argv[1:4])
-    folder = {name: os.path.join(top, name) for name in ("written", "stepped", "unstepped", "small")}
+    folder = {name: os.path.join(top, name) for name in ("written", "stepped", "unstepped", "relaxed", "relaxed_in_frames", "small")}
     ours, theirs = [proved, "plain"], [plain, "1001", "500", "10", "5"]
 
-    run(folder["written"], ours)
-    file = output()
-    run(folder["written"], theirs)
-    assert file == output(), "the files differ"
+    for name, words in (("written", theirs), ("relaxed_in_frames", theirs + ["relax"])):
+        run(folder[name], ours)
+        file = output()
+        run(folder[name], words)
+        assert file == output(), "the files differ"
 
-    least = {name: 9.0 for name in ("written", "stepped", "unstepped", "theirs", "walk", "copy")}
+    least = {name: 9.0 for name in ("written", "stepped", "unstepped", "relaxed", "theirs", "walk", "copy", "relax")}
 
     def took(name, seconds):
         least[name] = min(least[name], seconds)
 
     for _ in range(ROUNDS):
-        for name in ("written", "stepped", "unstepped"):
+        for name in ("written", "stepped", "unstepped", "relaxed"):
             took(name, run(folder[name], ours)[0])
         seconds, printed = run(folder["written"], theirs)
         took("theirs", seconds)
         for name, nanoseconds in zip(("walk", "copy"), printed.split()):
             took(name, int(nanoseconds) / 1e9)
+        took("relax", int(run(folder["relaxed"], theirs[:4] + ["0", "relax"])[1].split()[0]) / 1e9)
     stepping = least["stepped"] - least["unstepped"]
     print(f"10 steps of 1001 by 500 points, two phases: {1000 * stepping:.1f} ms, plain Rust {1000 * least['walk']:.1f} ms, ratio {stepping / least['walk']:.2f}")
+    relaxing = least["relaxed"] - least["unstepped"]
+    print(f"10 steps of a phase that calls relax: {1000 * relaxing:.1f} ms, plain Rust with a match {1000 * least['relax']:.1f} ms, ratio {relaxing / least['relax']:.2f}")
     both = least["walk"] + least["copy"]
     print(f"the same read, stepped and written: {1000 * least['written']:.1f} ms, {least['written'] / both:.2f} times the steps in plain Rust and writing the bytes alone ({1000 * both:.1f} ms), {least['written'] / least['theirs']:.2f} times all of it in plain Rust")
 

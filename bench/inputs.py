@@ -57,6 +57,7 @@ halo h24
 phase q writes a margin 1 1 extend 1 = (4*a[0,0,0] + a[-1,0,0] + a[1,0,0] + a[0,0,-1] + a[0,0,1]) div 8
 phase p writes b margin 2 1 = a[-1,0,0] + a[1,0,0]
 """
+RELAX = "phase q writes a = call relax(a[0,0,0], 100, 4)\n"
 
 
 def namelist(nx, ny, steps, every):
@@ -85,10 +86,10 @@ def input_file(nx, ny):
     return front + words(*((37 * i + 53 * j) % 100 for j in range(ny) for i in range(nx)))
 
 
-def case(folder, nx, ny, steps, every):
-    """A folder with the four files of a run of the base table."""
+def case(folder, nx, ny, steps, every, phases=TABLE):
+    """A folder with the four files of a run of a table."""
     os.makedirs(folder)
-    texts = {"Registry": REGISTRY, "stencil.table": TABLE, "namelist.input": namelist(nx, ny, steps, every)}
+    texts = {"Registry": REGISTRY, "stencil.table": phases, "namelist.input": namelist(nx, ny, steps, every)}
     for name, text in texts.items():
         with open(os.path.join(folder, name), "w") as file:
             file.write(text)
@@ -101,6 +102,8 @@ def main():
     case("written", 1001, 500, 10, 5)
     case("stepped", 1001, 500, 10, 0)
     case("unstepped", 1001, 500, 0, 0)
+    case("relaxed", 1001, 500, 10, 0, RELAX)
+    case("relaxed_in_frames", 1001, 500, 10, 5, RELAX)
     case("small", 3, 3, 10, 5)
     for name, text in [("registry", registry(50_000)), ("registry_half", registry(25_000)), ("table", table())]:
         with open(name, "w") as file:

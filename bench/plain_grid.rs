@@ -1,6 +1,7 @@
-// A run of the base table on one whole domain, written plainly in Rust: the input file is read, both phases are stepped
-// point by point by a walk over their trees with checked arithmetic, and the history file is written. For bench/run. Prints
-// the nanoseconds of the walk, and those of writing the bytes of the records alone.
+// A run of a table on one whole domain, written plainly in Rust: the input file is read, the phases are stepped point by
+// point by a walk over their trees with checked arithmetic, and the history file is written. The table is the base one, or
+// with the word `relax` one phase that calls this function. For bench/run. Prints the nanoseconds of the walk, and those of
+// writing the bytes of the records alone.
 use std::fs::{self, File};
 use std::hint::black_box;
 use std::io::{Seek, SeekFrom, Write};
@@ -19,7 +20,7 @@ enum Test {
     Equal,
 }
 
-// All that a table can say but calls; the base table uses a part of it.
+// All that a table can say; the two tables use a part of it.
 #[allow(dead_code)]
 enum Expr {
     Num(u64),
@@ -37,6 +38,17 @@ enum Expr {
     Min(Box<Expr>, Box<Expr>),
     Max(Box<Expr>, Box<Expr>),
     If { test: Test, left: Box<Expr>, right: Box<Expr>, yes: Box<Expr>, no: Box<Expr> },
+    Call { id: u32, arguments: Vec<Expr> },
+}
+
+// What the stored functions answer, by their numbers.
+fn answer(id: u32, arguments: &[i64]) -> i64 {
+    let (x, y, z) = (arguments[0], arguments[1], arguments[2]);
+    match id {
+        0 => x.max(y).min(z),
+        _ if z < 1 => x,
+        _ => (i128::from(x) + (i128::from(y) - i128::from(x)).div_euclid(i128::from(z))) as i64,
+    }
 }
 
 // A level of a field: nz levels of ny rows of nx points.
@@ -95,10 +107,17 @@ fn value(expr: &Expr, at: &Point) -> Option<i64> {
             };
             value(if holds { yes } else { no }, at)
         }
+        Expr::Call { id, arguments } => {
+            let mut numbers = [0; 8];
+            for (number, argument) in numbers.iter_mut().zip(arguments) {
+                *number = value(argument, at)?;
+            }
+            Some(answer(*id, &numbers[..arguments.len()]))
+        }
     }
 }
 
-// ---- the base table
+// ---- the tables
 
 fn read(di: i32, dj: i32) -> Box<Expr> {
     Box::new(Expr::Read { field: 0, di, dk: 0, dj })
@@ -115,7 +134,12 @@ struct Phase {
     expr: Expr,
 }
 
-fn table() -> Vec<Phase> {
+fn relax_table() -> Vec<Phase> {
+    let arguments = vec![*read(0, 0), Expr::Num(100), Expr::Num(4)];
+    vec![Phase { writes: 0, margin_x: 0, margin_y: 0, expr: Expr::Call { id: 1, arguments } }]
+}
+
+fn base_table() -> Vec<Phase> {
     let four = Box::new(Expr::Mul(Box::new(Expr::Num(4)), read(0, 0)));
     let five = sum(sum(sum(sum(four, read(-1, 0)), read(1, 0)), read(0, -1)), read(0, 1));
     let two = Expr::Add(read(-1, 0), read(1, 0));
@@ -230,9 +254,10 @@ fn append(file: &mut File, bytes: &[u8], count: u32) {
     file.write_all(&count.to_be_bytes()).expect("the count");
 }
 
-// NX NY STEPS EVERY: a frame at the start and after each so many steps; 0 for none.
+// NX NY STEPS EVERY [relax]: a frame at the start and after each so many steps; 0 for none.
 fn main() {
-    let n: Vec<u32> = std::env::args().skip(1).map(|w| w.parse().expect("a number")).collect();
+    let words: Vec<String> = std::env::args().skip(1).collect();
+    let n: Vec<u32> = words[..4].iter().map(|w| w.parse().expect("a number")).collect();
     let (nx, ny, steps, every) = (n[0], n[1], n[2], n[3]);
     let bytes = fs::read(INPUT).expect("an input file");
     let a = numbers(&bytes[400..400 + 4 * nx as usize * ny as usize]);
@@ -240,7 +265,8 @@ fn main() {
     drop(bytes);
     let mut scratch = Vec::with_capacity(a.len());
     let mut levels = [Level { nx, ny, numbers: a }, Level { nx, ny, numbers: b }];
-    let phases = black_box(table());
+    let is_relax = words.get(4).is_some_and(|word| word == "relax");
+    let phases = black_box(if is_relax { relax_table() } else { base_table() });
     let mut file = None;
     let mut bytes = Vec::new();
     let (mut walk, mut copy, mut count) = (0, 0, 0);
