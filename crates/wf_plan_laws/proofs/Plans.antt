@@ -1,7 +1,6 @@
 -- The parts of an accepted plan put together.
-use Rattle.std.proofs.Common.{◌≡◌, inl, Ok, pos, codes, ◌≤◌, List, [], length, refl, sym, subst, arith}
+use Rattle.std.proofs.Common.{◌≡◌, inl, Ok, pos, codes, ◌≤◌, List, length, refl, sym, subst, arith}
 use Rattle.std.specs.List.{All}
-use Rattle.std.proofs.lemmas.List.Elements.{All-nil}
 use Rattle.wf_model.specs.declared.config.Config.{Config}
 use Rattle.wf_model.specs.declared.plan.Plan.{Plan}
 use Rattle.wf_model.specs.declared.plan.Item.{Item}
@@ -21,13 +20,12 @@ use Rattle.wf_registry_laws.specs.FieldLaws.{field_levels}
 use Rattle.wf_registry_laws.proofs.Registries.{registries_are_sound}
 use Rattle.wf_registry_laws.proofs.Configs.{configs_are_sound}
 use Rattle.wf_registry_laws.proofs.Hooks.{levels_use_hooks}
-use Rattle.wf_table_laws.specs.Premises.{HasRangedArity}
 use Rattle.wf_table_laws.specs.NamesLaws.{AreItemsOf}
 use Rattle.wf_table_laws.proofs.Margins.{margins_small}
 use Rattle.wf_table_laws.proofs.BoundNames.{bound_tables}
 use Rattle.wf_plan_laws.specs.TestLaws.{PassesTests}
 use Rattle.wf_plan_laws.specs.PartLaws.{AreSoundFields, PassesLimits}
-use Rattle.wf_plan_laws.specs.PlanLaws.{IsAcceptedPlan, PlansWithHooksAreSound, AcceptedPlansAreSound}
+use Rattle.wf_plan_laws.specs.PlanLaws.{IsAcceptedPlan, PlansWithHooksAreSound}
 use Rattle.wf_plan_laws.proofs.Tests.{plans_pass_their_tests}
 use Rattle.wf_plan_laws.proofs.SoundReads.{reads_are_sound}
 use Rattle.wf_plan_laws.proofs.Items.{phases_name_levels, items_are_sound}
@@ -105,8 +103,3 @@ plans_with_hooks_are_sound files defines registry namelist config hooks text ite
       functions = λ usual. record { functions = subst (λ fs. All (UsesHooks hooks) fs) (sym made.fields) (levels_use_hooks config hooks usual); calls = own.calls };
       no_calls = own.no_calls;
     }
-
-pub accepted_plans_are_sound : AcceptedPlansAreSound
-accepted_plans_are_sound files defines registry namelist config text items plan read bound table given =
-    let all : IsAcceptedPlan [] plan = plans_with_hooks_are_sound files defines registry namelist config [] text items plan read bound (All-nil HasRangedArity) table given in
-    record { sound = all.sound; ranged = all.ranged; files = all.files; single = all.single; no_calls = all.no_calls refl }

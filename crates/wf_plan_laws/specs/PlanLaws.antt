@@ -37,19 +37,3 @@ PlansWithHooksAreSound =
     (text : List ℕ) (items : List Item) (plan : Plan)
     → registry_of files defines ≡ Ok registry → config_of registry namelist ≡ Ok config → All HasRangedArity hooks
     → table_of text (names_of config hooks) ≡ Ok items → plan_of config hooks items ≡ Ok plan → IsAcceptedPlan hooks plan
-
--- what it keeps without stored functions
-pub record IsSoundSinglePlan (plan : Plan) : Type 0 where
-  pub sound : IsSoundPlan plan
-  pub ranged : IsRangedPlan plan
-  pub files : FilesFit plan
-  pub single : length plan.domains ≡ 1
-  pub no_calls : All CallsNothing plan.items
-
--- the plan of a Registry, a namelist and a table, until stored functions are built
-abbrev pub AcceptedPlansAreSound : Type 0
-AcceptedPlansAreSound =
-    (files : List SourceFile) (defines : Defines) (registry : Registry) (namelist : Namelist) (config : Config)
-    (text : List ℕ) (items : List Item) (plan : Plan)
-    → registry_of files defines ≡ Ok registry → config_of registry namelist ≡ Ok config
-    → table_of text (names_of config []) ≡ Ok items → plan_of config [] items ≡ Ok plan → IsSoundSinglePlan plan

@@ -4,7 +4,7 @@
 ghost use Rattle.wf_plan_laws.specs.TestLaws.{PlansPassTheirTests};
 ghost use Rattle.wf_plan_laws.specs.ReadLaws.{ReadsAreSound};
 ghost use Rattle.wf_plan_laws.specs.PartLaws.{PhasesNameLevels, ItemsAreSound, FieldsAreSound, LimitsAreKept, DomainsAreCounted, DomainsAreSingle};
-ghost use Rattle.wf_plan_laws.specs.PlanLaws.{PlansWithHooksAreSound, AcceptedPlansAreSound};
+ghost use Rattle.wf_plan_laws.specs.PlanLaws.{PlansWithHooksAreSound};
 
 /// A plan that is given is what the config and the table say, and each group of its tests passes.
 pub fn plans_pass_their_tests()
@@ -50,9 +50,4 @@ pub fn domains_are_single()
 /// within their sizes, and it has one domain; calls are of stored functions.
 pub fn plans_with_hooks_are_sound()
     ensures { PlansWithHooksAreSound }
-{}
-
-/// So it is without stored functions, and nothing is called.
-pub fn accepted_plans_are_sound()
-    ensures { AcceptedPlansAreSound }
 {}
