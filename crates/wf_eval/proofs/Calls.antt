@@ -1,6 +1,7 @@
 -- A call of a stored function: its arguments are evaluated in order, and it answers its meaning.
 use Rattle.std.proofs.Common.{◌≡◌, ℕ, ◌+◌, ◌<◌, ◌≤◌, suc, List, [], ◌∷◌, ◌++◌, length, refl, sym, ap, subst, ◌∙◌, Option, Some, None, arith, append_assoc, length-append}
-use Rattle.std.specs.Prelude.{ℤ, FitsSigned, IfSome}
+use Rattle.std.specs.Prelude.{ℤ, FitsSigned}
+use Rattle.std.specs.Option.{OnSome, option_map}
 use mir.Syntax.{w64}
 use Rattle.wf_model.specs.declared.expr.Expr.{Expr}
 use Rattle.wf_model.specs.declared.expr.Expr.TheVariants as expr
@@ -20,6 +21,10 @@ use Rattle.wf_eval.proofs.Operands.{call_needs, more_needs, count-More}
 nothing_more : (xs : List ℤ) → xs ++ [] ≡ xs
 nothing_more [] = refl
 nothing_more (x ∷ xs) = ap (λ ys. x ∷ ys) (nothing_more xs)
+
+-- the numbers that were gathered, if each argument has one
+abbrev pub mapped : Option (Unit {0}) → List ℤ → Option (List ℤ)
+mapped r a = option_map (λ _. a) r
 
 -- ---- the call
 
@@ -49,9 +54,9 @@ module _ (A : ℕ → List ℤ → Type 0) (C : Read → Type 0) (x : Expr) (id 
   call_each = subst (AreEvaluable A C) (sym ep) (call_needs A C id list needs).operands
 
   -- what was gathered is accepted
-  pub call_accepted : (a zs : List ℤ) (o : Option (List ℤ)) → o ≡ Some a → IfSome o (λ l. length l ≡ length b + count_in p) → zs ≡ a → AreI64 zs → A id zs
-  call_accepted a zs o some count same fit =
-      let own : length a ≡ length b + count_in p = subst (λ (q : Option (List ℤ)). IfSome q (λ l. length l ≡ length b + count_in p)) some count in
+  pub call_accepted : (a zs : List ℤ) (r : Option (Unit {0})) → r ≡ Some tt → OnSome r (length a ≡ length b + count_in p) → zs ≡ a → AreI64 zs → A id zs
+  call_accepted a zs r some count same fit =
+      let own : length a ≡ length b + count_in p = subst (λ (q : Option (Unit {0})). OnSome q (length a ≡ length b + count_in p)) some count in
       let long : length zs ≡ count_in list = ap (λ (l : List ℤ). length l) same ∙ own ∙ (λ i. length (eb i) + count_in (ep i)) ∙ omega arith in
       (call_needs A C id list needs).accepted.each zs long fit
 
@@ -117,9 +122,9 @@ module _ (x : Args) (a : Expr) (rest : Args) (b : List ℤ) (is : x ≡ args.Mor
       let same : count_in q ≡ count_in rest = ap count_in eq in
       omega (arith, room, counted, longer v w ew, same)
 
-  pub next_count : (v : ℤ) (w : List ℤ) (q : Args) (r : Option (List ℤ)) → w ≡ b ++ v ∷ [] → q ≡ rest → IfSome r (λ l. length l ≡ length w + count_in q) → IfSome r (λ l. length l ≡ length b + count_in x)
-  next_count v w q None ew eq h = h
-  next_count v w q (Some l) ew eq h =
+  pub next_count : (v : ℤ) (w : List ℤ) (q : Args) (r : Option (Unit {0})) (l : List ℤ) → w ≡ b ++ v ∷ [] → q ≡ rest → OnSome r (length l ≡ length w + count_in q) → OnSome r (length l ≡ length b + count_in x)
+  next_count v w q None l ew eq h = h
+  next_count v w q (Some u) l ew eq h =
       let same : count_in q ≡ count_in rest = ap count_in eq in
       let own : length l ≡ length w + count_in q = h in
       omega (arith, own, counted, longer v w ew, same)

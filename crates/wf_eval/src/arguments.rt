@@ -33,17 +33,13 @@ impl Arguments {
         }
     }
 
-    /// One number more.
-    pub fn with(self, number: i64) -> Arguments
-        requires { length self < 8 }
-        ensures { result ≡ self ++ number ∷ [] }
+    /// Adds a number behind the others.
+    pub fn push(&mut self, number: i64)
+        requires { length self.old < 8 }
+        ensures { self.new ≡ self.old ++ number ∷ [] }
     {
-        let Arguments { mut numbers, count } = self;
-        numbers[count] = number;
-        Arguments {
-            numbers,
-            count: count + 1,
-        }
+        self.numbers[self.count] = number;
+        self.count += 1;
     }
 
     pub fn as_slice(&self) -> &[i64]

@@ -1,6 +1,7 @@
 //! The walk over an expression's tree.
 
-ghost use Rattle.std.specs.Prelude.{◌≡◌, ◌+◌, ◌≤◌, ◌++◌, length, Some, IfSome};
+ghost use Rattle.std.specs.Prelude.{◌≡◌, ◌+◌, ◌≤◌, ◌++◌, length, Some, option_map};
+ghost use Rattle.std.specs.Option.{OnSome};
 ghost use Rattle.wf_model.specs.Numbers.{and_then, in_i32, of_both};
 ghost use Rattle.wf_model.specs.Value.{number_of, value_of};
 ghost use Rattle.wf_eval.specs.Arguments.{count_in, numbers_in};
@@ -97,31 +98,32 @@ fn number<R: Reader, M: Meanings, F: Answering<M>>(
             None => None,
         },
         Expr::Call { id, arguments } => {
-            let arguments = gathered(arguments.get(), reader, hooks, Arguments::new())?;
-            Some(hooks.call(*id, arguments.as_slice()))
+            let mut numbers = Arguments::new();
+            gather(arguments.get(), reader, hooks, &mut numbers)?;
+            Some(hooks.call(*id, numbers.as_slice()))
         }
     }
 }
 
-/// These numbers and those of the arguments; none where an argument has none. From one that has none on, no argument is
-/// evaluated.
+/// Adds the numbers of the arguments to those before them; none where an argument has none. From one that has none on, no
+/// argument is evaluated.
 #[cycle(number)]
-fn gathered<R: Reader, M: Meanings, F: Answering<M>>(
+fn gather<R: Reader, M: Meanings, F: Answering<M>>(
     list: &Args,
     reader: &R,
     hooks: &HookTable<M, F>,
-    before: Arguments,
-) -> Option<Arguments>
-    requires room { length before + count_in list.now ≤ 8 }
+    before: &mut Arguments,
+) -> Option<()>
+    requires room { length before.old + count_in list.now ≤ 8 }
     requires each { AreEvaluable M.accepts (R.CanRead reader.now) list.now }
-    ensures numbers { result ≡ and_then (numbers_in M.answer (R.sight reader.now) list.now) (λ zs. Some (before ++ zs)) }
-    ensures count { IfSome result (λ zs. length zs ≡ length before + count_in list.now) }
+    ensures numbers { option_map (λ _. before.new) result ≡ and_then (numbers_in M.answer (R.sight reader.now) list.now) (λ zs. Some (before.old ++ zs)) }
+    ensures count { OnSome result (length before.new ≡ length before.old + count_in list.now) }
 {
     match list {
-        Args::End => Some(before),
+        Args::End => Some(()),
         Args::More(first, rest) => {
-            let value = number(first.get(), reader, hooks)?;
-            gathered(rest.get(), reader, hooks, before.with(value))
+            before.push(number(first.get(), reader, hooks)?);
+            gather(rest.get(), reader, hooks, before)
         }
     }
 }
