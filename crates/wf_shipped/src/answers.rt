@@ -28,8 +28,8 @@ fn limit(number: i64, low: i64, high: i64) -> i64
     number.max(low).min(high)
 }
 
-/// The number moved toward another by a part of what lies between them, rounded down. Where the parts are fewer than
-/// one, it stays.
+/// The number moved toward another by a part of what lies between them, rounded down. Where the
+/// parts are fewer than one, it stays.
 fn relax(number: i64, toward: i64, parts: i64) -> i64
     ensures { result ≡ relax_of number toward parts }
 {

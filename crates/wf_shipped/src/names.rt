@@ -1,7 +1,8 @@
 //! The names of the shipped functions.
 
-ghost use Rattle.std.specs.Prelude.{◌≡◌, IfOk};
+ghost use Rattle.std.specs.Prelude.{◌≡◌, IfOk, None};
 ghost use Rattle.wf_hooks.specs.Accepts.{AcceptsHooks};
+ghost use Rattle.wf_hooks.specs.Hooks.{repeated_name};
 ghost use Rattle.wf_shipped.specs.Shipping.{shipped_hooks};
 
 use crate::shipped::Shipped;
@@ -9,10 +10,11 @@ use std::alloc::{AllocError, Global};
 use wf_hooks::Meanings;
 use wf_model::{HookKind, HookName, Name};
 
-/// The names of the shipped functions, with their ids: `limit` and `relax`, each of three arguments. Each accepts every list
-/// of three numbers of 64 bits.
+/// The names of the shipped functions, with their ids: `limit` and `relax`, each of three
+/// arguments. No two have one name. Each accepts every list of three numbers of 64 bits.
 pub fn shipped_names(alloc: Global) -> Result<Vec<HookName>, AllocError>
     ensures names { IfOk result (λ v. v.items ≡ shipped_hooks) }
+    ensures distinct { IfOk result (λ v. repeated_name v.items ≡ None) }
     ensures accepted { IfOk result (λ v. AcceptsHooks ⟦<Shipped as Meanings>⟧.accepts v.items) }
 {
     let limit = Name::from_vec(Vec::from_slice(alloc, b"limit")?);

@@ -1,4 +1,5 @@
-//! The program `wrftool`: the top call over the folder that it starts in, the standard output and the shipped functions.
+//! The program `wrftool`: the top call over the folder that it starts in, the standard output and
+//! the shipped functions.
 #![tactic(auto)]
 
 use std::alloc::Global;
@@ -13,8 +14,8 @@ use wf_top::tool_main;
 
 const MEMORY: u8 = 10;
 
-// The words after the program's name, or none for want of memory. Where one of them is no text, they are no command, as
-// no words are.
+// The words after the program's name, or none for want of memory. Where one of them is no text,
+// they are no command, as no words are.
 fn words(rt: &HostRuntime) -> Option<Vec<String>> {
     let mut words = Vec::new(rt.alloc());
     match env::args(rt) {
@@ -46,16 +47,16 @@ fn run<R: Threads + Sync, S: Store, O: Sink, F: Answering<Shipped>>(
     let Ok(names) = shipped_names(alloc) else {
         return MEMORY;
     };
-    // no two shipped functions have one name
     let made: Result<HookTable<Shipped, F>, HookError> = HookTable::new(
         alloc,
         names.as_slice(),
         function,
     );
-    let Ok(hooks) = made else {
-        return MEMORY;
-    };
-    tool_main(rt, alloc, words, store, out, &hooks)
+    match made {
+        Ok(hooks) => tool_main(rt, alloc, words, store, out, &hooks),
+        Err(HookError::Memory) => MEMORY,
+        Err(HookError::Repeated { name: _ }) => unreachable!(),
+    }
 }
 
 fn main(rt: HostRuntime) -> ExitCode {
