@@ -11,8 +11,12 @@
 //!   numbers of 4 bytes. They come in the place that the line before them left.
 //! - `fail CALL KEPT`: in the next run this call of the store fails, counted from 1, with so many
 //!   bytes of its write kept. `fail put CALL`: this put of the sink fails.
+//! - `stored NAME ARITY ..`: the next run's table stores these functions for calls, with ids from 0
+//!   in their order, each of at most 8 arguments. Each answers its second argument, or 0 where it
+//!   has fewer than two. Without this line a run's table stores the shipped functions.
 //! - `run WORDS`: runs `tool_main` with these words, on a store of the case's files, and prints the
-//!   status, the number of the store's faults and the text that the sink took.
+//!   status, the number of the store's faults and the text that the sink took. Where a stored name
+//!   stands twice, it prints `stored Repeated NAME` in place of these.
 //! - `show NAME`: prints the length of a file that the run left, and the MD5 digest of its bytes.
 //! - `look NAME AT COUNT`: prints so many numbers of 4 bytes of it, from byte AT.
 //!
@@ -22,6 +26,7 @@
 mod files;
 mod pieces;
 mod script;
+mod stored;
 
 use crate::script::Script;
 use anyhow::{Context, Result};
