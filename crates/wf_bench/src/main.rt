@@ -1,5 +1,5 @@
-//! Times the readers, for bench/run: `wf_bench registry|table|numbers ROUNDS FILE` prints the least nanoseconds of so many
-//! rounds over the file.
+//! Times the readers, for bench/run: `wf_bench registry|table|numbers ROUNDS FILE` prints the least
+//! nanoseconds of so many rounds over the file.
 #![tactic(auto)]
 
 mod work;

@@ -41,7 +41,8 @@ fn names(alloc: Global) -> Result<Option<Names>, AllocError> {
 }
 
 impl Work {
-    /// What is to be timed over these bytes: a Registry, a table, or the numbers of a netCDF file's variable `A`.
+    /// What is to be timed over these bytes: a Registry, a table, or the numbers of a netCDF file's
+    /// variable `A`.
     pub fn new(alloc: Global, kind: &str, bytes: Vec<u8>) -> Result<Option<Work>, AllocError> {
         if kind == "registry" {
             let name = Bytes::from_vec(Vec::from_slice(alloc, b"Registry")?);

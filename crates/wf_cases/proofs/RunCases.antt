@@ -1,6 +1,6 @@
 -- The worked cases of whole runs, computed.
 use Rattle.std.specs.Prelude.{◌≡◌, refl, Some, ℤ, pos, negsuc, ◌+ℤ◌}
-use Rattle.wf_model.specs.declared.expr.Expr.{roll-Expr, fold-roll-Expr}
+use Rattle.wf_model.specs.declared.expr.Expr.{fold-roll-Expr}
 use Rattle.wf_model.specs.declared.expr.Args.{fold-roll-Args}
 use Rattle.wf_model.specs.declared.expr.Args.TheOpen as e
 use Rattle.wf_model.specs.Numbers.{of_both, in_i64}
@@ -25,7 +25,7 @@ use Rattle.wf_model.specs.Outcome.{outcome_of, outcome_from}
 use Rattle.wf_model.specs.Writes.{record_of, summary_of}
 use Rattle.wf_model.specs.Bytes.{header_bytes, slab_bytes}
 use Rattle.wf_model.specs.Headers.{file_header, dims_of}
-use Rattle.wf_cases.specs.RunCases.{num, read, neighbours, OldValues, BothPatchesOverflow, ExtendedPhase, PeriodicGrid, FarGrid, RunOfNoLength, NestOverflow, RelaxHook, StaggeredExtraPoint, StreamWithoutFields}
+use Rattle.wf_cases.specs.RunCases.{num, read, raised, neighbours, OldValues, BothPatchesOverflow, ExtendedPhase, PeriodicGrid, FarGrid, RunOfNoLength, NestOverflow, FileNames, RelaxHook, StaggeredExtraPoint, StreamWithoutFields}
 use Rattle.wf_cases.proofs.DemoCases.{demo_number}
 
 -- the number of a read
@@ -34,7 +34,7 @@ unfolding number_of
 read_number m s di = simp fold-roll-Expr refl
 
 -- the number of a read and one more
-raised_number : (m : Answers) (s : Sight) → number_of m s (roll-Expr (e.Add (read (pos 0)) (num 1))) ≡ of_both (λ x y. in_i64 (x +ℤ y)) (in_i64 (s.read 0 (pos 0) (pos 0) (pos 0))) (Some (pos 1))
+pub raised_number : (m : Answers) (s : Sight) → number_of m s raised ≡ of_both (λ x y. in_i64 (x +ℤ y)) (in_i64 (s.read 0 (pos 0) (pos 0) (pos 0))) (Some (pos 1))
 unfolding number_of
 raised_number m s = simp fold-roll-Expr refl
 
@@ -71,6 +71,9 @@ run_of_no_length = record { frames = refl }
 pub nest_overflow : NestOverflow
 unfolding number_of begin_grids change_of changed table_change nothing grid_from domain_of field_of item_of begin_of overflow_of spots in_region
 nest_overflow = record { nest = simp fold-roll-Expr refl }
+
+pub file_names : FileNames
+file_names = record { history = refl; auxiliary = refl; restart = refl }
 
 pub relax_hook : RelaxHook
 unfolding number_of grids_at begin_grids grids_after change_of changed table_change nothing grid_from domain_of field_of item_of begin_of script_of step_of children listed in_region

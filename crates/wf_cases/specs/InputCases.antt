@@ -1,5 +1,6 @@
 -- Worked cases of input and restart files.
-use Rattle.std.specs.Prelude.{ℕ, ◌≡◌, ◌+◌, true, List, [], ◌∷◌, ◌++◌, length, take, drop, replicate, Result, Ok, Err, codes}
+use Rattle.std.specs.Prelude.{ℕ, ◌≡◌, ◌+◌, true, List, [], ◌∷◌, ◌++◌, length, take, drop, replicate}
+use Rattle.std.specs.Prelude.{Result, Ok, Err, codes}
 use Rattle.wf_model.specs.declared.plan.Plan.{Plan}
 use Rattle.wf_model.specs.declared.header.Header.{Header}
 use Rattle.wf_model.specs.declared.header.Att.{Att}
@@ -34,7 +35,8 @@ refused k = Err (record { file = file; kind = k })
 
 -- 64 bytes between the header and the data, and each begin raised by 64
 abbrev pub moved : List ℕ
-moved = take 212 input ++ four_bytes 444 ++ take 160 (drop 216 input) ++ four_bytes 464 ++ replicate 64 170 ++ drop 380 input
+moved = take 212 input ++ four_bytes 444 ++ take 160 (drop 216 input) ++ four_bytes 464
+    ++ replicate 64 170 ++ drop 380 input
 
 pub record CutInput : Type 0 where
   pub size : length input ≡ 436
@@ -86,7 +88,8 @@ with_atts h atts = record h { atts = atts }
 
 abbrev pub restart_bytes : List Att → List ℕ
 restart_bytes atts =
-    header_bytes (placed (with_atts (one_record (file_header restarted 1 10 case_start 0)) atts)) ++ padded restart_time ++ slab_bytes (case_values 37 100 3 3)
+    header_bytes (placed (with_atts (one_record (file_header restarted 1 10 case_start 0)) atts))
+    ++ padded restart_time ++ slab_bytes (case_values 37 100 3 3)
 
 abbrev pub restart_file : List ℕ
 restart_file = codes "wrfrst_d01_2000-01-01_00:02:00"
@@ -101,13 +104,18 @@ abbrev pub start_att : Att
 start_att = text_att (codes "START_DATE") case_start
 
 abbrev pub two_steps : Att
-two_steps = record { name = codes "STEPS"; kind = 4; count = 2; bytes = four_bytes 2 ++ four_bytes 2 }
+two_steps =
+    record { name = codes "STEPS"; kind = 4; count = 2; bytes = four_bytes 2 ++ four_bytes 2 }
 
 pub record RestartInput : Type 0 where
   pub resumed : resume (start_att ∷ int_att (codes "STEPS") 2 ∷ [])
-      ≡ Ok (record { grids = (case_values 37 100 3 3 ∷ []) ∷ []; begins = record { steps = 2; start_text = case_start; resumed = true } ∷ [] })
+      ≡ Ok (record {
+        grids = (case_values 37 100 3 3 ∷ []) ∷ [];
+        begins = record { steps = 2; start_text = case_start; resumed = true } ∷ [];
+      })
   -- the start and three steps lead past the restart's time
-  pub other_steps : resume (start_att ∷ int_att (codes "STEPS") 3 ∷ []) ≡ restart_refused kind.WrongTime
+  pub other_steps : resume (start_att ∷ int_att (codes "STEPS") 3 ∷ [])
+      ≡ restart_refused kind.WrongTime
   pub steps_twice : resume (start_att ∷ two_steps ∷ []) ≡ restart_refused kind.WrongAttribute
   pub no_start : resume (int_att (codes "STEPS") 2 ∷ []) ≡ restart_refused kind.WrongAttribute
   pub missing : input_of no_files restarted ≡ restart_refused kind.Missing

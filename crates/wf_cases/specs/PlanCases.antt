@@ -17,7 +17,16 @@ west = roll-Expr (e.Read 0 (negsuc 0) (pos 0) (pos 0))
 
 -- phase q writes a margin mx 0 = a[-1,0,0]
 abbrev pub q : ℕ → Phase
-q mx = record { name = codes "q"; writes = 0; mx = mx; my = 0; from = 0; to = 0; extend = 0; expr = west }
+q mx = record {
+  name = codes "q";
+  writes = 0;
+  mx = mx;
+  my = 0;
+  from = 0;
+  to = 0;
+  extend = 0;
+  expr = west;
+}
 
 abbrev pub row : ℕ → Plan
 row mx = case_plan 4 1 1 (case_field (codes "a") (codes "A")) (item.Phase (q mx) ∷ [])

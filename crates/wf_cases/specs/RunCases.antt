@@ -1,5 +1,6 @@
 -- Worked cases of whole runs of one domain: their grids, or their first overflow.
-use Rattle.std.specs.Prelude.{ℕ, ◌≡◌, ◌*◌, Bool, true, false, replicate, List, [], ◌∷◌, length, ℤ, pos, negsuc, ◌+ℤ◌, ◌-ℤ◌, codes, Some, slice_index_or}
+use Rattle.std.specs.Prelude.{ℕ, ◌≡◌, ◌*◌, Bool, true, false, replicate, List, [], ◌∷◌, length, ℤ}
+use Rattle.std.specs.Prelude.{pos, negsuc, ◌+ℤ◌, ◌-ℤ◌, codes, Some, slice_index_or}
 use Rattle.std.specs.Int.{int_div_euclid}
 use Rattle.wf_model.specs.declared.expr.Expr.{Expr, roll-Expr}
 use Rattle.wf_model.specs.declared.expr.Args.{roll-Args}
@@ -18,7 +19,9 @@ use Rattle.wf_model.specs.Writes.{summary_of}
 use Rattle.wf_model.specs.Bytes.{header_bytes}
 use Rattle.wf_model.specs.Headers.{file_header}
 use Rattle.wf_model.specs.Sizes.{file_size}
-use Rattle.wf_model.specs.DemoCase.{columns_layout, case_start, case_domain, case_field, case_plan, case_values, demo_expr}
+use Rattle.wf_model.specs.Streams.{file_name}
+use Rattle.wf_model.specs.DemoCase.{columns_layout, case_start, case_domain, case_field, case_plan}
+use Rattle.wf_model.specs.DemoCase.{case_values, demo_expr}
 
 abbrev pub num : ℕ → Expr
 num n = roll-Expr (e.Num n)
@@ -29,8 +32,20 @@ read di = roll-Expr (e.Read 0 di (pos 0) (pos 0))
 -- a run of x by y points with one phase q that writes a: one step, after the start frame
 abbrev pub run : ℕ → ℕ → ℕ → Expr → RunData
 run x y margin expr = record {
-  plan = case_plan x y 1 (case_field (codes "a") (codes "A")) (item.Phase (record { name = codes "q"; writes = 0; mx = margin; my = 0; from = 0; to = 0; extend = 0; expr = expr }) ∷ []);
-  initial = record { grids = (case_values 37 100 x y ∷ []) ∷ []; begins = record { steps = 0; start_text = case_start; resumed = false } ∷ [] };
+  plan = case_plan x y 1 (case_field (codes "a") (codes "A")) (item.Phase (record {
+    name = codes "q";
+    writes = 0;
+    mx = margin;
+    my = 0;
+    from = 0;
+    to = 0;
+    extend = 0;
+    expr = expr;
+  }) ∷ []);
+  initial = record {
+    grids = (case_values 37 100 x y ∷ []) ∷ [];
+    begins = record { steps = 0; start_text = case_start; resumed = false } ∷ [];
+  };
   answers = λ id xs. pos 0;
 }
 
@@ -38,9 +53,11 @@ run x y margin expr = record {
 abbrev pub neighbours : Expr
 neighbours = roll-Expr (e.Add (read (negsuc 0)) (read (pos 1)))
 
--- a phase reads the values before it, also where it has written already: 0 37 74 11 becomes 0 74 48 11
+-- a phase reads the values before it, also where it has written already: 0 37 74 11 becomes
+-- 0 74 48 11
 pub record OldValues : Type 0 where
-  pub grid : level_list (run 4 1 1 neighbours).plan 1 0 (grids_at (run 4 1 1 neighbours) 2) ≡ pos 0 ∷ pos 74 ∷ pos 48 ∷ pos 11 ∷ []
+  pub grid : level_list (run 4 1 1 neighbours).plan 1 0 (grids_at (run 4 1 1 neighbours) 2)
+      ≡ pos 0 ∷ pos 74 ∷ pos 48 ∷ pos 11 ∷ []
 
 -- if j < 2 then (if i = 4 then 3000000000 else 0) else (if i = 1 then 3000000000 else 0)
 abbrev pub large_at : ℕ → Expr
@@ -51,21 +68,35 @@ both = roll-Expr (e.If Less (roll-Expr e.J) (num 2) (large_at 4) (large_at 1))
 
 -- two patches overflow, and the least point by j and i is named
 pub record BothPatchesOverflow : Type 0 where
-  pub point : overflow_of (run 4 2 0 both) (record { domain = 1; step = 1; time = 0; act = Table 0 }) (begin_grids (run 4 2 0 both))
+  pub point : overflow_of (run 4 2 0 both)
+      (record { domain = 1; step = 1; time = 0; act = Table 0 }) (begin_grids (run 4 2 0 both))
       ≡ Some (record { domain = 1; step = 1; what = what.Phase 0; field = 0; k = 1; j = 1; i = 4 })
 
 -- ---- runs of two fields, a and b, of which b begins with 0
 
 abbrev pub phase : ℕ → ℕ → ℕ → ℕ → Expr → Item
-phase writes mx my extend expr = item.Phase (record { name = codes "p"; writes = writes; mx = mx; my = my; from = 0; to = 0; extend = extend; expr = expr })
+phase writes mx my extend expr = item.Phase (record {
+  name = codes "p";
+  writes = writes;
+  mx = mx;
+  my = my;
+  from = 0;
+  to = 0;
+  extend = extend;
+  expr = expr;
+})
 
 abbrev pub run_of_two : Bool → ℕ → ℕ → List Item → RunData
 run_of_two periodic x y items = record {
   plan = record (case_plan x y 1 (case_field (codes "a") (codes "A")) items) {
     domains = record (case_domain x y) { periodic_x = periodic } ∷ [];
-    fields = case_field (codes "a") (codes "A") ∷ record (case_field (codes "b") (codes "B")) { pair = 1; input = false } ∷ [];
+    fields = case_field (codes "a") (codes "A")
+        ∷ record (case_field (codes "b") (codes "B")) { pair = 1; input = false } ∷ [];
   };
-  initial = record { grids = (case_values 37 100 x y ∷ replicate (x * y) (pos 0) ∷ []) ∷ []; begins = record { steps = 0; start_text = case_start; resumed = false } ∷ [] };
+  initial = record {
+    grids = (case_values 37 100 x y ∷ replicate (x * y) (pos 0) ∷ []) ∷ [];
+    begins = record { steps = 0; start_text = case_start; resumed = false } ∷ [];
+  };
   answers = λ id xs. pos 0;
 }
 
@@ -77,7 +108,8 @@ numbers r f place = level_list r.plan 1 f (grids_at r place)
 abbrev pub square : Item
 square = item.Halo (record { field = 0; cross = false; radius = 2 } ∷ [])
 
--- q writes a at the inner points from a point and its four neighbours, and p writes b from a's neighbours in x
+-- q writes a at the inner points from a point and its four neighbours, and p writes b from a's
+-- neighbours in x
 abbrev pub extended : RunData
 extended = run_of_two false 6 3 (square ∷ phase 0 1 1 1 demo_expr ∷ phase 1 2 1 0 neighbours ∷ [])
 
@@ -98,16 +130,21 @@ wrapped = run_of_two true 4 1 (phase 0 0 0 0 (read (negsuc 0)) ∷ [])
 pub record PeriodicGrid : Type 0 where
   pub a : numbers wrapped 0 2 ≡ pos 11 ∷ pos 0 ∷ pos 37 ∷ pos 74 ∷ []
 
+-- a[0,0,0] + 1
+abbrev pub raised : Expr
+raised = roll-Expr (e.Add (read (pos 0)) (num 1))
+
 -- q adds 1 to a, and p reads it three points in the west
 abbrev pub far : RunData
-far = run_of_two false 8 1 (phase 0 0 0 0 (roll-Expr (e.Add (read (pos 0)) (num 1))) ∷ square ∷ phase 1 3 0 0 (read (negsuc 2)) ∷ [])
+far = run_of_two false 8 1 (phase 0 0 0 0 raised ∷ square ∷ phase 1 3 0 0 (read (negsuc 2)) ∷ [])
 
 pub record FarGrid : Type 0 where
   pub b : numbers far 1 4 ≡ pos 0 ∷ pos 0 ∷ pos 0 ∷ pos 1 ∷ pos 38 ∷ pos 0 ∷ pos 0 ∷ pos 0 ∷ []
 
 -- a run of no length has its start frame alone
 abbrev pub short : RunData
-short = record (run_of_two false 3 3 (square ∷ [])) { plan = record ((run_of_two false 3 3 (square ∷ [])).plan) { steps = 0 } }
+short = record (run_of_two false 3 3
+    (square ∷ [])) { plan = record ((run_of_two false 3 3 (square ∷ [])).plan) { steps = 0 } }
 
 pub record RunOfNoLength : Type 0 where
   pub frames : length (frames_of short) ≡ 1
@@ -119,17 +156,40 @@ at_nine = roll-Expr (e.If Equal (roll-Expr e.I) (num 9) (num 3000000000) (read (
 
 abbrev pub nested : RunData
 nested = record {
-  plan = record (case_plan 8 8 10 (case_field (codes "a") (codes "A")) (phase 0 0 0 0 at_nine ∷ [])) {
-    domains = case_domain 8 8 ∷ record (case_domain 9 9) { parent = 1; i_start = 3; j_start = 3; ratio = 3; time_ratio = 3; seconds = 20 } ∷ [];
+  plan =
+      record (case_plan 8 8 10 (case_field (codes "a") (codes "A")) (phase 0 0 0 0 at_nine ∷ [])) {
+        domains = case_domain 8 8 ∷ record (case_domain 9 9) {
+          parent = 1;
+          i_start = 3;
+          j_start = 3;
+          ratio = 3;
+          time_ratio = 3;
+          seconds = 20;
+        }
+            ∷ [];
+      };
+  initial = record {
+    grids = (case_values 37 100 8 8 ∷ []) ∷ [];
+    begins = record { steps = 0; start_text = case_start; resumed = false }
+        ∷ record { steps = 0; start_text = case_start; resumed = false } ∷ [];
   };
-  initial = record { grids = (case_values 37 100 8 8 ∷ []) ∷ []; begins = record { steps = 0; start_text = case_start; resumed = false } ∷ record { steps = 0; start_text = case_start; resumed = false } ∷ [] };
   answers = λ id xs. pos 0;
 }
 
 -- before the nest has started it holds 0
 pub record NestOverflow : Type 0 where
-  pub nest : overflow_of nested (record { domain = 2; step = 1; time = 0; act = Table 0 }) (begin_grids nested)
+  pub nest : overflow_of nested (record { domain = 2; step = 1; time = 0; act = Table 0 })
+      (begin_grids nested)
       ≡ Some (record { domain = 2; step = 1; what = what.Phase 0; field = 0; k = 1; j = 1; i = 9 })
+
+-- ---- the name of a file: its stream, its domain and the date of its first frame
+
+pub record FileNames : Type 0 where
+  pub history : file_name 0 1 case_start ≡ codes "wrfout_d01_2000-01-01_00:00:00"
+  pub auxiliary : file_name 7 8 (codes "1999-12-31_18:30:00")
+      ≡ codes "auxhist7_d08_1999-12-31_18:30:00"
+  pub restart : file_name 10 2 (codes "2005-06-30_12:00:30")
+      ≡ codes "wrfrst_d02_2005-06-30_12:00:30"
 
 -- ---- a stored function: x + (y - x) div n
 
@@ -141,7 +201,8 @@ relax id xs = at_list xs 0 +ℤ int_div_euclid (at_list xs 1 -ℤ at_list xs 0) 
 
 -- call relax(a[0,0,0], 100, 4)
 abbrev pub relaxed : Expr
-relaxed = roll-Expr (e.Call 1 (roll-Args (e.More (read (pos 0)) (roll-Args (e.More (num 100) (roll-Args (e.More (num 4) (roll-Args e.End))))))))
+relaxed = roll-Expr (e.Call 1 (roll-Args (e.More (read (pos 0))
+    (roll-Args (e.More (num 100) (roll-Args (e.More (num 4) (roll-Args e.End))))))))
 
 abbrev pub hooked : RunData
 hooked = record (run 2 1 0 relaxed) { answers = relax }
@@ -153,17 +214,24 @@ pub record RelaxHook : Type 0 where
 
 abbrev pub staggered : RunData
 staggered = record {
-  plan = record (case_plan 4 1 1 (record (case_field (codes "u") (codes "U")) { stag_x = true }) []) { version = 1 };
-  initial = record { grids = ((pos 10 ∷ pos 20 ∷ pos 30 ∷ pos 40 ∷ pos 50 ∷ []) ∷ []) ∷ []; begins = record { steps = 0; start_text = case_start; resumed = false } ∷ [] };
+  plan = record (case_plan 4 1 1
+      (record (case_field (codes "u") (codes "U")) { stag_x = true }) []) { version = 1 };
+  initial = record {
+    grids = ((pos 10 ∷ pos 20 ∷ pos 30 ∷ pos 40 ∷ pos 50 ∷ []) ∷ []) ∷ [];
+    begins = record { steps = 0; start_text = case_start; resumed = false } ∷ [];
+  };
   answers = λ id xs. pos 0;
 }
 
 pub record StaggeredExtraPoint : Type 0 where
   pub memories : memory_report staggered (columns_layout 3) ≡
-      record { domain = 1; patch = 0; cells = 1; sum = pos 10 } ∷ record { domain = 1; patch = 1; cells = 1; sum = pos 20 } ∷ record { domain = 1; patch = 2; cells = 3; sum = pos 120 } ∷ []
+      record { domain = 1; patch = 0; cells = 1; sum = pos 10 }
+      ∷ record { domain = 1; patch = 1; cells = 1; sum = pos 20 }
+      ∷ record { domain = 1; patch = 2; cells = 3; sum = pos 120 } ∷ []
   pub summary : summary_of staggered ≡ record { files = 1; records = 2; bytes = 80; sum = 2255 }
 
--- ---- a stream without fields: its file has a header of 176 bytes, and two records of 19, which aren't padded
+-- ---- a stream without fields: its file has a header of 176 bytes, and two records of 19, which
+-- aren't padded
 
 pub record StreamWithoutFields : Type 0 where
   pub header : length (header_bytes (file_header short.plan 1 3 case_start 0)) ≡ 176

@@ -1,5 +1,6 @@
 -- Worked cases of the stencil table.
-use Rattle.std.specs.Prelude.{ℕ, ◌≡◌, zero, suc, List, [], ◌∷◌, ◌++◌, map, replicate, flat_map, ℤ, pos, negsuc, Some, None, Result, Ok, Err, codes}
+use Rattle.std.specs.Prelude.{ℕ, ◌≡◌, zero, suc, List, [], ◌∷◌, ◌++◌, map, replicate, flat_map, ℤ}
+use Rattle.std.specs.Prelude.{pos, negsuc, Some, None, Result, Ok, Err, codes}
 use Rattle.std.specs.List.{range_with_len}
 use Rattle.wf_model.specs.declared.plan.Item.{Item}
 use Rattle.wf_model.specs.declared.plan.Item.TheVariants as item
@@ -9,7 +10,11 @@ use Rattle.wf_model.specs.declared.expr.Args.TheOpen as e
 use Rattle.wf_model.specs.declared.expr.Test.TheVariants.{Less}
 use Rattle.wf_model.specs.declared.table.Token.{Token}
 use Rattle.wf_model.specs.declared.table.TableKind.{TableKind}
-use Rattle.wf_model.specs.declared.table.TableKind.TheVariants.{NotText, BadText, Syntax, UnknownField, UnknownName, UnknownHook, Arity, ZeroDivisor, NotTwoLevels, TooDeep, RepeatedPhase, TooLong}
+use Rattle.wf_model.specs.declared.table.TableKind.TheVariants.{NotText, BadText, Syntax}
+use Rattle.wf_model.specs.declared.table.TableKind.TheVariants.{UnknownField, UnknownName}
+use Rattle.wf_model.specs.declared.table.TableKind.TheVariants.{UnknownHook, Arity, ZeroDivisor}
+use Rattle.wf_model.specs.declared.table.TableKind.TheVariants.{NotTwoLevels, TooDeep}
+use Rattle.wf_model.specs.declared.table.TableKind.TheVariants.{RepeatedPhase, TooLong}
 use Rattle.wf_model.specs.declared.table.TableFault.{TableFault}
 use Rattle.wf_model.specs.Tokens.{tokens_of}
 use Rattle.wf_model.specs.Table.{table_of, item_of_text}
@@ -28,12 +33,15 @@ pub record TableRefusals : Type 0 where
   -- the good lines come first
   pub bad_text : read (codes "halo h24" ∷ codes "swap \"c" ∷ []) ≡ refused 2 BadText
   pub bad_text_waits : read (codes "halo h4" ∷ codes "swap \"c" ∷ []) ≡ refused 1 UnknownName
-  pub zero_divisor : read (codes "halo h24" ∷ codes "phase q writes a = a[0,0,0] mod 0" ∷ []) ≡ refused 2 ZeroDivisor
-  pub unknown_hook : read (codes "halo h24" ∷ codes "phase q writes a = call nosuch(1)" ∷ []) ≡ refused 2 UnknownHook
+  pub zero_divisor : read (codes "halo h24" ∷ codes "phase q writes a = a[0,0,0] mod 0" ∷ [])
+      ≡ refused 2 ZeroDivisor
+  pub unknown_hook : read (codes "halo h24" ∷ codes "phase q writes a = call nosuch(1)" ∷ [])
+      ≡ refused 2 UnknownHook
   pub arity : read (codes "phase q writes a = call relax(1, 2)" ∷ []) ≡ refused 1 Arity
   pub unknown_period : read (codes "period p1" ∷ []) ≡ refused 1 UnknownName
   pub unknown_field : read (codes "phase q writes d = 1" ∷ []) ≡ refused 1 UnknownField
-  pub repeated_phase : read (codes "phase q writes a = 1" ∷ codes "phase Q writes b = 1" ∷ []) ≡ refused 2 RepeatedPhase
+  pub repeated_phase : read (codes "phase q writes a = 1" ∷ codes "phase Q writes b = 1" ∷ [])
+      ≡ refused 2 RepeatedPhase
   pub taken_phase : read (codes "phase force writes a = 1" ∷ []) ≡ refused 1 (Syntax 7)
   pub one_level : read (codes "swap a" ∷ []) ≡ refused 1 NotTwoLevels
   -- a field without a z letter is read at its one level
@@ -42,7 +50,8 @@ pub record TableRefusals : Type 0 where
   pub at_the_end : read (codes "phase q writes a = 1 +" ∷ []) ≡ refused 1 (Syntax 23)
   pub reserved_word : read (codes "phase q writes if = 1" ∷ []) ≡ refused 1 (Syntax 16)
   -- the words are joined by one blank, over lines that go on
-  pub joined_column : read (codes "phase  q   writes a \\" ∷ codes "  = )" ∷ []) ≡ refused 1 (Syntax 20)
+  pub joined_column : read (codes "phase  q   writes a \\" ∷ codes "  = )" ∷ [])
+      ≡ refused 1 (Syntax 20)
 
 -- ---- trees
 
@@ -60,21 +69,43 @@ minus a b = roll-Expr (e.Sub a b)
 
 -- a phase that writes field 1, without a margin, on all levels
 abbrev pub whole_phase : Expr → Result Item TableKind
-whole_phase x = Ok (item.Phase (record { name = codes "p"; writes = 1; mx = 0; my = 0; from = 0; to = 0; extend = 0; expr = x }))
+whole_phase x = Ok (item.Phase (record {
+  name = codes "p";
+  writes = 1;
+  mx = 0;
+  my = 0;
+  from = 0;
+  to = 0;
+  extend = 0;
+  expr = x;
+}))
 
 abbrev pub phase_of : List ℕ → Result Item TableKind
 phase_of text = item_of_text table_names [] (codes "phase p writes b = " ++ text)
 
 pub record TableTrees : Type 0 where
   pub columns : map Token.column (tokens_of (codes "a <= 12*(b")) ≡ 1 ∷ 3 ∷ 6 ∷ 8 ∷ 9 ∷ 10 ∷ 11 ∷ []
-  pub all_parts : item_of_text table_names [] (codes "Phase P writes c_2 margin 2 1 levels 1 1 extend 6 = a[-1,0,0] + a[1,0,0]")
-      ≡ Ok (item.Phase (record { name = codes "p"; writes = 3; mx = 2; my = 1; from = 1; to = 1; extend = 6; expr = plus (field 0 (negsuc 0) (pos 0)) (field 0 (pos 1) (pos 0)) }))
+  pub all_parts : item_of_text table_names []
+      (codes "Phase P writes c_2 margin 2 1 levels 1 1 extend 6 = a[-1,0,0] + a[1,0,0]")
+      ≡ Ok (item.Phase (record {
+        name = codes "p";
+        writes = 3;
+        mx = 2;
+        my = 1;
+        from = 1;
+        to = 1;
+        extend = 6;
+        expr = plus (field 0 (negsuc 0) (pos 0)) (field 0 (pos 1) (pos 0));
+      }))
   pub swapped : item_of_text table_names [] (codes "swap C") ≡ Ok (item.Swap 2 3)
   -- operators group from the left, and an else branch takes as much as it can
-  pub grouping : phase_of (codes "if i < 2 then 1 - 2 - 3 else 4 + 5*6 div 7") ≡ whole_phase (roll-Expr (e.If Less (roll-Expr e.I) (num 2)
-      (minus (minus (num 1) (num 2)) (num 3)) (plus (num 4) (roll-Expr (e.Div (roll-Expr (e.Mul (num 5) (num 6))) 7)))))
+  pub grouping : phase_of (codes "if i < 2 then 1 - 2 - 3 else 4 + 5*6 div 7")
+      ≡ whole_phase (roll-Expr (e.If Less (roll-Expr e.I) (num 2)
+      (minus (minus (num 1) (num 2)) (num 3))
+      (plus (num 4) (roll-Expr (e.Div (roll-Expr (e.Mul (num 5) (num 6))) 7)))))
   pub called : phase_of (codes "call relax(i, 100, 4)") ≡
-      whole_phase (roll-Expr (e.Call 1 (roll-Args (e.More (roll-Expr e.I) (roll-Args (e.More (num 100) (roll-Args (e.More (num 4) (roll-Args e.End)))))))))
+      whole_phase (roll-Expr (e.Call 1 (roll-Args (e.More (roll-Expr e.I)
+      (roll-Args (e.More (num 100) (roll-Args (e.More (num 4) (roll-Args e.End)))))))))
 
 -- ---- limits
 
@@ -96,4 +127,5 @@ pub record TableLimits : Type 0 where
   pub nodes_1024 : fault (phase_of (codes "-" ++ balanced 9)) ≡ None
   pub nodes_1025 : fault (phase_of (codes "- -" ++ balanced 9)) ≡ Some TooLong
   -- the item after 256 is one too many, whatever it holds
-  pub items_257 : fault (table_of (many 256 ++ codes "nonsense") table_names) ≡ Some (record { line = 257; kind = TooLong })
+  pub items_257 : fault (table_of (many 256 ++ codes "nonsense") table_names)
+      ≡ Some (record { line = 257; kind = TooLong })

@@ -1,5 +1,7 @@
--- The texts that the worked cases share: the base case's namelist, and lines that many cases begin with.
-use Rattle.std.specs.Prelude.{ℕ, false, List, [], ◌∷◌, ◌++◌, Option, Some, None, Result, Ok, Err, codes}
+-- The texts that the worked cases share: the base case's namelist, and lines that many cases
+-- begin with.
+use Rattle.std.specs.Prelude.{ℕ, false, List, [], ◌∷◌, ◌++◌, Option, Some, None, Result, Ok, Err}
+use Rattle.std.specs.Prelude.{codes}
 use Rattle.wf_model.specs.declared.registry.SourceFile.{SourceFile}
 use Rattle.wf_model.specs.declared.table.Names.{Names}
 use Rattle.wf_model.specs.declared.table.HookName.{HookName}
@@ -22,17 +24,20 @@ registry ls = file (codes "Registry") (lines ls) ∷ []
 
 -- these lines behind the dimspecs of x and y
 abbrev pub after_dimspecs : List (List ℕ) → List (List ℕ)
-after_dimspecs more = codes "dimspec i 1 standard_domain x west_east" ∷ codes "dimspec j 3 standard_domain y south_north" ∷ more
+after_dimspecs more = codes "dimspec i 1 standard_domain x west_east"
+    ∷ codes "dimspec j 3 standard_domain y south_north" ∷ more
 
 -- and behind a field too
 abbrev pub after_field : List (List ℕ) → List (List ℕ)
-after_field more = after_dimspecs (codes "state integer a ij misc 1 - i0rhudf \"A\" \"\" \"\"" ∷ more)
+after_field more =
+    after_dimspecs (codes "state integer a ij misc 1 - i0rhudf \"A\" \"\" \"\"" ∷ more)
 
 -- ---- names of a table: fields a and b, t with a z letter, c with two levels
 
 abbrev pub table_names : Names
 table_names = record {
-  levels = (codes "a", false) ∷ (codes "b", false) ∷ (codes "c_1", false) ∷ (codes "c_2", false) ∷ [];
+  levels = (codes "a", false) ∷ (codes "b", false) ∷ (codes "c_1", false)
+      ∷ (codes "c_2", false) ∷ [];
   fields = (codes "a", 0, 0) ∷ (codes "b", 1, 1) ∷ (codes "c", 2, 3) ∷ [];
   halos = (codes "h24", record { field = 0; cross = false; radius = 2 } ∷ []) ∷ [];
   periods = [];
@@ -50,7 +55,8 @@ shipped_names =
 
 -- ---- namelists
 
--- the base case's namelist with another first line of `&domains`, the sixth, and another second, the seventh
+-- the base case's namelist with another first line of `&domains`, the sixth, and another second,
+-- the seventh
 abbrev pub namelist_with : List ℕ → List ℕ → List ℕ
 namelist_with sixth seventh = lines (
     codes "&time_control" ∷
@@ -74,7 +80,8 @@ sizes = codes " e_we = 4, e_sn = 4, e_vert = 2,"
 abbrev pub base_namelist : List ℕ
 base_namelist = namelist_with steps_and_patches sizes
 
--- two domains, of which the second has parent 1; `start` is its first parent point in x, and `sizes` the rest
+-- two domains, of which the second has parent 1; `start` is its first parent point in x, and
+-- `sizes` the rest
 abbrev pub nest_namelist : List ℕ → List ℕ → List ℕ
 nest_namelist start sizes = lines (
     codes "&time_control" ∷
@@ -95,4 +102,5 @@ no_files name = None
 -- a store of the three texts
 abbrev pub texts : List ℕ → List ℕ → List ℕ → Files
 texts registry_text namelist_text table_text =
-    with_file (with_file (with_file no_files (codes "Registry") registry_text) (codes "namelist.input") namelist_text) (codes "stencil.table") table_text
+    with_file (with_file (with_file no_files (codes "Registry") registry_text)
+    (codes "namelist.input") namelist_text) (codes "stencil.table") table_text

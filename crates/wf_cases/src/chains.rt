@@ -1,6 +1,7 @@
 //! Worked cases from the texts of a run to its refusal, or to what `check` prints.
 
-ghost use Rattle.wf_cases.specs.ChainCases.{MissingTexts, NamelistRefusals, NestRefusals, LenientNamelist, InactiveRealState, Commands};
+ghost use Rattle.wf_cases.specs.ChainCases.{MissingTexts, NamelistRefusals, NestRefusals};
+ghost use Rattle.wf_cases.specs.ChainCases.{LenientNamelist, InactiveRealState, Commands};
 ghost use Rattle.wf_cases.specs.PlanCases.{ReadsAtTheEdge};
 
 /// A store without a Registry, and an include that no store can have.

@@ -1,6 +1,9 @@
 //! Worked cases of the halo rule.
 
-ghost use Rattle.wf_cases.specs.HaloCases.{CornerAfterCross, ExtendAtTheEdge, PeriodicRow, TwoPatchesAway, FeedbackWrites};
+ghost use Rattle.wf_cases.specs.AcceptedCases.{AcceptedPlans};
+ghost use Rattle.wf_cases.specs.FewCases.{FewColumns, OneColumnFails};
+ghost use Rattle.wf_cases.specs.HaloCases.{CornerAfterCross, ExtendAtTheEdge, PeriodicRow};
+ghost use Rattle.wf_cases.specs.HaloCases.{TwoPatchesAway, FeedbackWrites};
 
 /// A corner isn't covered after a halo of 4 points, and is after one of 8.
 #[tactic(auto, using(crate::proofs::HaloCases::corner_after_cross))]
@@ -30,4 +33,22 @@ pub fn two_patches_away()
 #[tactic(auto, using(crate::proofs::HaloCases::feedback_writes))]
 pub fn feedback_writes()
     ensures { FeedbackWrites }
+{}
+
+/// A plan with a nest, and one that wraps: both are sound, and the check accepts them.
+#[tactic(auto, using(crate::proofs::AcceptedCases::accepted_plans))]
+pub fn accepted_plans()
+    ensures { AcceptedPlans }
+{}
+
+/// The few columns that the check looks at tell what all of them tell.
+#[tactic(auto, using(crate::proofs::FewCases::few_columns))]
+pub fn few_columns()
+    ensures { FewColumns }
+{}
+
+/// A read that one column alone refuses.
+#[tactic(auto, using(crate::proofs::FewCases::one_column_fails))]
+pub fn one_column_fails()
+    ensures { OneColumnFails }
 {}

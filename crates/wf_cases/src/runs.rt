@@ -1,8 +1,12 @@
 //! Worked cases of runs: grids, bytes, overflows, events.
 
 ghost use Rattle.wf_cases.specs.DemoCases.{DemoOnePatch, DemoInItsOwnWords};
-ghost use Rattle.wf_cases.specs.RunCases.{OldValues, BothPatchesOverflow, ExtendedPhase, PeriodicGrid, FarGrid, RunOfNoLength, NestOverflow, RelaxHook, StaggeredExtraPoint, StreamWithoutFields};
-ghost use Rattle.wf_cases.specs.CountCases.{Counts, LayoutRefusals};
+ghost use Rattle.wf_cases.specs.RunCases.{OldValues, BothPatchesOverflow, ExtendedPhase};
+ghost use Rattle.wf_cases.specs.RunCases.{PeriodicGrid, FarGrid, RunOfNoLength, NestOverflow};
+ghost use Rattle.wf_cases.specs.RunCases.{FileNames, RelaxHook, StaggeredExtraPoint};
+ghost use Rattle.wf_cases.specs.RunCases.{StreamWithoutFields};
+ghost use Rattle.wf_cases.specs.CountCases.{Counts, ThreeDomains, LayoutRefusals};
+ghost use Rattle.wf_cases.specs.RestartCases.{RestartTimes};
 ghost use Rattle.wf_cases.specs.EventCases.{EventsInOrder, HaloMemories};
 
 /// The demo on 3 by 3 points: its grid, its file byte for byte, and its summary.
@@ -71,6 +75,12 @@ pub fn nest_overflow()
     ensures { NestOverflow }
 {}
 
+/// The name of a file has its stream, its domain and the date of its first frame.
+#[tactic(auto, using(crate::proofs::RunCases::file_names))]
+pub fn file_names()
+    ensures { FileNames }
+{}
+
 /// A stored function in an expression.
 #[tactic(auto, using(crate::proofs::RunCases::relax_hook))]
 pub fn relax_hook()
@@ -99,4 +109,16 @@ pub fn counts()
 #[tactic(auto, using(crate::proofs::CountCases::layout_refusals))]
 pub fn layout_refusals()
     ensures { LayoutRefusals }
+{}
+
+/// The script of three domains as it is made, and as steps and frames of each domain tell.
+#[tactic(auto, using(crate::proofs::CountCases::three_domains))]
+pub fn three_domains()
+    ensures { ThreeDomains }
+{}
+
+/// Three steps with a restart after each.
+#[tactic(auto, using(crate::proofs::RestartCases::restart_times))]
+pub fn restart_times()
+    ensures { RestartTimes }
 {}

@@ -1,7 +1,8 @@
 //! Worked cases of texts: lines, the Registry, namelists and the stencil table.
 
 ghost use Rattle.wf_cases.specs.LineCases.{LogicalLines};
-ghost use Rattle.wf_cases.specs.RegistryCases.{RegistryRefusals, RegistryUnsupported, RegistryRead, RegistryFiles};
+ghost use Rattle.wf_cases.specs.RegistryCases.{RegistryRefusals, RegistryUnsupported, RegistryRead};
+ghost use Rattle.wf_cases.specs.RegistryCases.{RegistryFiles};
 ghost use Rattle.wf_cases.specs.NamelistCases.{NamelistKinds, NamelistValues};
 ghost use Rattle.wf_cases.specs.TableCases.{TableRefusals, TableTrees, TableLimits};
 

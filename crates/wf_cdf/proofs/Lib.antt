@@ -5,3 +5,4 @@ pub mod Placed
 pub mod Limits
 pub mod LevelLoops
 pub mod StreamSizes
+pub mod SoundParts

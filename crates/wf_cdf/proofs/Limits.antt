@@ -12,7 +12,7 @@ use Rattle.wf_cdf.proofs.Sizes.{padded_slabs_le}
 use Rattle.wf_cdf.proofs.Placed.{moving_of, BeginsFit_placed}
 
 -- each version's limit is at most 2 to the 40
-most_bytes_small : (version : ℕ) → most_bytes version ≤ 2 ^ 40
+pub most_bytes_small : (version : ℕ) → most_bytes version ≤ 2 ^ 40
 most_bytes_small version = elim (eqb version 1) as (λ b. cond b 2147483644 1099511627776 ≤ 2 ^ 40) [ true ↦ omega arith | false ↦ omega arith ]
 
 -- a capped size is above the limit exactly where the size is
@@ -29,7 +29,7 @@ at_least zero n h = omega arith
 at_least (suc k) n h = omega arith
 
 -- the header and all variables of one record are within a file, but for three bytes of padding
-one_record_le : (h : Header) (records : ℕ) →
+pub one_record_le : (h : Header) (records : ℕ) →
     length (header_bytes h) + fixed_size h + moving_of h.dims h.vars ≤ file_size h records + 3
 one_record_le h records =
     let one : record_size h ≤ max 1 records * record_size h = at_least (max 1 records) (record_size h) (omega arith) in

@@ -91,7 +91,7 @@ length_placed_from dims fixed moving (v ∷ vs) =
     ]
 
 -- what each placed variable keeps, all of them keep
-All_placed : (P : Var → Type 0) (dims : List Dim) (fixed moving : ℕ) (vs : List Var) →
+pub All_placed : (P : Var → Type 0) (dims : List Dim) (fixed moving : ℕ) (vs : List Var) →
     ((v : Var) (at : ℕ) → P v → P (placed_var dims at v)) → All P vs → All P (placed_from dims fixed moving vs)
 All_placed P dims fixed moving [] keeps all = All-nil P
 All_placed P dims fixed moving (v ∷ vs) keeps all =
@@ -120,7 +120,7 @@ below_case dims fixed moving v vs end false f m ef em hf hm one two =
     All-cons (λ x. x.begin < end) (placed_var dims fixed v) (placed_from dims (fixed + padded_size dims v) moving vs) (omega arith)
     (two (omega arith) (omega arith))
 
-begins_below : (dims : List Dim) (fixed moving : ℕ) (vs : List Var) (end : ℕ) → fixed + fixed_of dims vs < end → moving + moving_of dims vs < end →
+pub begins_below : (dims : List Dim) (fixed moving : ℕ) (vs : List Var) (end : ℕ) → fixed + fixed_of dims vs < end → moving + moving_of dims vs < end →
     All (λ v. v.begin < end) (placed_from dims fixed moving vs)
 begins_below dims fixed moving [] end f m = All-nil (λ v. v.begin < end)
 begins_below dims fixed moving (v ∷ vs) end f m =

@@ -1,11 +1,15 @@
 -- The sizes of a stream's files, whatever the text of the start, of a given length, and the number of steps.
 use Rattle.std.proofs.Common.{◌≡◌, ℕ, ◌+◌, ◌-◌, ◌*◌, ◌%◌, ◌≤◌, max, min, Bool, true, false, cond, List, [], ◌∷◌, ◌++◌, length, codes, refl, sym, ap, ◌∙◌, arith, length-append}
-use Rattle.std.specs.Prelude.{flat_map, ◌==◌, replicate}
+use Rattle.std.specs.Prelude.{flat_map, ◌==◌, ◌&&◌, replicate, IsTrue}
+use Rattle.std.specs.Str.{bytes_eq}
 use Rattle.std.proofs.lemmas.List.{length-replicate}
+use Rattle.std.proofs.lemmas.Slice.Eq.{bytes_eq-Decides}
 use Rattle.std.proofs.Math.Nat.{mul-le-mul}
 use Rattle.wf_model.specs.declared.plan.Plan.{Plan}
 use Rattle.wf_model.specs.declared.header.Header.{Header}
 use Rattle.wf_model.specs.declared.header.Att.{Att}
+use Rattle.wf_model.specs.Calendar.{moment_of, text_of}
+use Rattle.wf_model.specs.Dates.{is_stamp}
 use Rattle.wf_model.specs.Script.{restart_stream}
 use Rattle.wf_model.specs.Bytes.{four_bytes, padded, name_bytes, att_bytes, dim_bytes, var_bytes, list_bytes, header_bytes}
 use Rattle.wf_model.specs.Headers.{text_att, int_att, dims_of, file_header}
@@ -68,6 +72,14 @@ unfolding file_header
 header_alike plan d stream a b m n same =
     same_length (file_header plan d stream a m) (file_header plan d stream b n) refl refl refl
     (alike (text_att (codes "START_DATE") a) (text_att (codes "START_DATE") b) (int_att (codes "GRID_ID") d) _ _ (text_alike (codes "START_DATE") a b same) (steps_alike (stream == restart_stream) (min m 2147483647) (min n 2147483647)))
+
+-- a text of a moment has 19 characters
+pub stamp_length : (text : List ℕ) → IsTrue (is_stamp text) → length text ≡ 19
+stamp_length text is = ap length ((bytes_eq-Decides text (text_of (moment_of text))).0 (last_holds _ (bytes_eq text (text_of (moment_of text))) is))
+  where
+    last_holds : (a b : Bool) → (a && b) ≡ true → b ≡ true
+    last_holds true b h = h
+    last_holds false b h = cc
 
 -- one record is no more than any number
 less_with_one : (before other fixed one records most : ℕ) → before ≡ other → other + fixed + max 1 records * one ≤ most → before + fixed + max 1 1 * one ≤ most

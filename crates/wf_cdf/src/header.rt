@@ -1,6 +1,9 @@
-ghost use Rattle.std.specs.Prelude.{◌≡◌, ◌+◌, ◌*◌, ◌^◌, ◌<◌, ◌++◌, IfOk, OnOk, All, length, flat_map, ◌==◌, if◌then◌else◌};
-ghost use Rattle.wf_model.specs.Bytes.{four_bytes, name_bytes, dim_bytes, att_bytes, begin_bytes, var_bytes, list_bytes, header_bytes};
-ghost use Rattle.wf_model.specs.SoundHeader.{IsCount, IsSoundDim, IsSoundAtt, IsSoundVar, IsSoundHeader, BeginsFit};
+ghost use Rattle.std.specs.Prelude.{◌≡◌, ◌+◌, ◌*◌, ◌^◌, ◌<◌, ◌++◌, IfOk, OnOk, All, length};
+ghost use Rattle.std.specs.Prelude.{flat_map, ◌==◌, if◌then◌else◌};
+ghost use Rattle.wf_model.specs.Bytes.{four_bytes, name_bytes, dim_bytes, att_bytes, begin_bytes};
+ghost use Rattle.wf_model.specs.Bytes.{var_bytes, list_bytes, header_bytes};
+ghost use Rattle.wf_model.specs.SoundHeader.{IsCount, IsSoundDim, IsSoundAtt, IsSoundVar};
+ghost use Rattle.wf_model.specs.SoundHeader.{IsSoundHeader, BeginsFit};
 
 use crate::length::header_length;
 use crate::padding::put_padded;
@@ -30,7 +33,8 @@ fn put_name(out: &mut Vec<u8>, name: &[u8]) -> Result<(), AllocError>
 /// The tag and count of a list: two zeros where it is empty.
 fn put_tag(out: &mut Vec<u8>, tag: u32, count: usize) -> Result<(), AllocError>
     requires { IsCount count }
-    ensures { OnOk result (out.new.items ≡ out.old.items ++ (four_bytes (if count == 0 then 0 else tag) ++ four_bytes count)) }
+    ensures { OnOk result (out.new.items
+        ≡ out.old.items ++ (four_bytes (if count == 0 then 0 else tag) ++ four_bytes count)) }
 {
     put_word(out, if count == 0 { 0 } else { tag })?;
     put_word(out, count as u32)
@@ -80,7 +84,8 @@ fn put_atts(out: &mut Vec<u8>, atts: &[Att]) -> Result<(), AllocError>
 
 fn put_shape(out: &mut Vec<u8>, numbers: &[u32]) -> Result<(), AllocError>
     requires { IsCount (length numbers.now) }
-    ensures { OnOk result (out.new.items ≡ out.old.items ++ (four_bytes (length numbers.now) ++ flat_map four_bytes numbers.now)) }
+    ensures { OnOk result (out.new.items
+        ≡ out.old.items ++ (four_bytes (length numbers.now) ++ flat_map four_bytes numbers.now)) }
 {
     put_word(out, numbers.len() as u32)?;
     for number in numbers {
@@ -121,7 +126,8 @@ fn put_vars(out: &mut Vec<u8>, version: u8, dims: &[Dim], vars: &[Var]) -> Resul
     requires count { IsCount (length vars.now) }
     requires each { All (IsSoundVar dims.now) vars.now }
     requires begins { version ≡ 1 → All (λ v. v.begin < 2 ^ 32) vars.now }
-    ensures { OnOk result (out.new.items ≡ out.old.items ++ list_bytes 11 (var_bytes version) vars.now) }
+    ensures { OnOk result
+        (out.new.items ≡ out.old.items ++ list_bytes 11 (var_bytes version) vars.now) }
 {
     put_tag(out, VARIABLES, vars.len())?;
     for var in vars {
@@ -130,7 +136,8 @@ fn put_vars(out: &mut Vec<u8>, version: u8, dims: &[Dim], vars: &[Var]) -> Resul
     Ok(())
 }
 
-/// The bytes of a header: `CDF`, the version, numrecs, and the lists of dimensions, attributes and variables.
+/// The bytes of a header: `CDF`, the version, numrecs, and the lists of dimensions, attributes
+/// and variables.
 ///
 /// The spelling is the netCDF classic format's, in which an empty list has eight zero bytes.
 #[tactic(auto, unfolding(wf_model::specs::Bytes::header_bytes))]

@@ -1,12 +1,13 @@
 ghost use Rattle.std.specs.Prelude.{◌≡◌, ◌<◌, ◌^◌, length, ◌==◌, if◌then◌else◌};
-ghost use Rattle.wf_model.specs.Bytes.{name_bytes, padded, att_bytes, dim_bytes, var_bytes, list_bytes, header_bytes};
+ghost use Rattle.wf_model.specs.Bytes.{name_bytes, padded, att_bytes, dim_bytes, var_bytes};
+ghost use Rattle.wf_model.specs.Bytes.{list_bytes, header_bytes};
 ghost use Rattle.wf_cdf.specs.Capped.{capped};
 
 use crate::padding::padding_of;
 use wf_model::{Att, Dim, Header, Var};
 
-// How many bytes the parts of a header have. The lengths of lists are counted by saturating sums, so that each is the
-// least of the exact number and the greatest of its type.
+// How many bytes the parts of a header have. The lengths of lists are counted by saturating sums,
+// so that each is the least of the exact number and the greatest of its type.
 
 /// The bytes of a text and its padding.
 fn padded_length(text: &[u8]) -> u128

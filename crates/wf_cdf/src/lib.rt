@@ -1,4 +1,5 @@
-//! Files of the netCDF classic format, versions 1 and 2, written: headers, slabs of numbers and texts.
+//! Files of the netCDF classic format, versions 1 and 2, written: headers, slabs of numbers
+//! and texts.
 #![tactic(auto)]
 
 mod header;

@@ -1,6 +1,8 @@
-ghost use Rattle.std.specs.Prelude.{◌≡◌, ◌+◌, ◌-◌, ◌^◌, ◌<◌, ◌↔◌, All, length, min, filter, sum_by, not, OnOk, OnErr, IfOk, IfErr, IsErr};
+ghost use Rattle.std.specs.Prelude.{◌≡◌, ◌+◌, ◌-◌, ◌^◌, ◌<◌, ◌↔◌, All, length, min, filter, sum_by};
+ghost use Rattle.std.specs.Prelude.{not, OnOk, OnErr, IfOk, IfErr, IsErr};
 ghost use Rattle.wf_model.specs.Bytes.{header_bytes};
-ghost use Rattle.wf_model.specs.Sizes.{is_record_var, padded_size, fixed_size, record_vars, file_size, most_bytes};
+ghost use Rattle.wf_model.specs.Sizes.{is_record_var, padded_size, fixed_size, record_vars};
+ghost use Rattle.wf_model.specs.Sizes.{file_size, most_bytes};
 ghost use Rattle.wf_model.specs.Headers.{vsize_of, placed_var, placed_from, placed};
 ghost use Rattle.wf_model.specs.SoundHeader.{IsSoundVar, IsSoundHeader, BeginsFit};
 
@@ -8,8 +10,8 @@ use crate::size::{begins_with_record, file_size, file_sizes, padded_size};
 use crate::too_long::TooLong;
 use wf_model::{Dim, Header, Var};
 
-/// The most bytes that a file may have: offsets are 32-bit numbers in version 1, and this project's limit is 2 to the
-/// 40 bytes in version 2.
+/// The most bytes that a file may have: offsets are 32-bit numbers in version 1, and this project's
+/// limit is 2 to the 40 bytes in version 2.
 fn most_bytes(version: u8) -> u128
     ensures { result ≡ most_bytes version }
 {
@@ -49,11 +51,14 @@ fn small_size(dims: &[Dim], var: &Var) -> u64
     padded_size(dims, var) as u64
 }
 
-/// Places fixed variables from `fixed` on, and record variables from `moving` on, each of the two in order.
+/// Places fixed variables from `fixed` on, and record variables from `moving` on, each of the two
+/// in order.
 fn place_each(dims: &[Dim], vars: &mut [Var], mut fixed: u64, mut moving: u64)
     requires each { All (IsSoundVar dims.now) vars.old }
-    requires fixed { fixed + sum_by (padded_size dims.now) (filter (λ v. not (is_record_var dims.now v)) vars.old) < 2 ^ 63 }
-    requires moving { moving + sum_by (padded_size dims.now) (filter (is_record_var dims.now) vars.old) < 2 ^ 63 }
+    requires fixed { fixed + sum_by (padded_size dims.now)
+        (filter (λ v. not (is_record_var dims.now v)) vars.old) < 2 ^ 63 }
+    requires moving { moving
+        + sum_by (padded_size dims.now) (filter (is_record_var dims.now) vars.old) < 2 ^ 63 }
     ensures { vars.new ≡ placed_from dims.now fixed moving vars.old }
 {
     for var in vars.iter_mut() {
@@ -84,20 +89,24 @@ fn place_all(header: &mut Header, fixed: u64, moving: u64)
     );
 }
 
-/// Sets vsize and begin of each variable of a header, and gives the header's length in bytes: data begins there.
+/// Sets vsize and begin of each variable of a header, and gives the header's length in bytes: data
+/// begins there.
 ///
-/// Fixed variables stand first and then record variables, each of the two in order, and each padded to a multiple of
-/// four; vsize is the padded size, or 4,294,967,295 where it is above 4,294,967,292 (netCDF classic format). The file
-/// with `records` records, counted as at least one, may have 2,147,483,644 bytes in version 1 and 2 to the 40 in
-/// version 2 (this project's limits); the header is unchanged where it would have more.
+/// Fixed variables stand first and then record variables, each of the two in order, and each padded
+/// to a multiple of four; vsize is the padded size, or 4,294,967,295 where it is above
+/// 4,294,967,292 (netCDF classic format). The file with `records` records, counted as at least one,
+/// may have 2,147,483,644 bytes in version 1 and 2 to the 40 in version 2 (this project's limits);
+/// the header is unchanged where it would have more.
 pub fn place_vars(header: &mut Header, records: u32) -> Result<u64, TooLong>
     requires { IsSoundHeader header.old }
     ensures placed { OnOk result (header.new ≡ placed header.old) }
     ensures length { IfOk result (λ n. n ≡ length (header_bytes header.old)) }
-    ensures same_length { OnOk result (length (header_bytes header.new) ≡ length (header_bytes header.old)) }
+    ensures same_length { OnOk result
+        (length (header_bytes header.new) ≡ length (header_bytes header.old)) }
     ensures sound { OnOk result (IsSoundHeader header.new) }
     ensures begins { OnOk result (BeginsFit header.new) }
-    ensures too_long { IsErr result ↔ (most_bytes header.old.version < file_size header.old records) }
+    ensures too_long { IsErr result
+        ↔ (most_bytes header.old.version < file_size header.old records) }
     ensures bytes { IfErr result (λ e. e.bytes ≡ min (file_size header.old records) (2 ^ 128 - 1)) }
     ensures unchanged { OnErr result (header.new ≡ header.old) }
 {

@@ -1,14 +1,17 @@
-ghost use Rattle.std.specs.Prelude.{◌≡◌, ◌<◌, ◌^◌, All, length, filter, sum_by, not, ◌==◌, if◌then◌else◌};
+ghost use Rattle.std.specs.Prelude.{◌≡◌, ◌<◌, ◌^◌, All, length, filter, sum_by, not, ◌==◌};
+ghost use Rattle.std.specs.Prelude.{if◌then◌else◌};
 ghost use Rattle.wf_model.specs.Bytes.{header_bytes};
-ghost use Rattle.wf_model.specs.Sizes.{type_size, rest_of, begins_with_record, is_record_var, lengths, product, slab_dims, slab_size, padded_size, rounded, record_size, fixed_size, file_size};
+ghost use Rattle.wf_model.specs.Sizes.{type_size, rest_of, begins_with_record, is_record_var};
+ghost use Rattle.wf_model.specs.Sizes.{lengths, product, slab_dims, slab_size, padded_size};
+ghost use Rattle.wf_model.specs.Sizes.{rounded, record_size, fixed_size, file_size};
 ghost use Rattle.wf_model.specs.SoundHeader.{IsKind, IsSoundVar, IsSoundHeader};
 ghost use Rattle.wf_cdf.specs.Capped.{capped};
 
 use crate::length::header_length;
 use wf_model::{Dim, Header, Var};
 
-// The sizes are counted by saturating sums and products, so that each is the least of the exact number and the
-// greatest of its type.
+// The sizes are counted by saturating sums and products, so that each is the least of the exact
+// number and the greatest of its type.
 
 /// The bytes of a number of a type: byte, char, short, int, float and double are 1 to 6.
 pub(crate) fn type_size(kind: u8) -> u32
@@ -99,7 +102,8 @@ pub(crate) fn padded_size(dims: &[Dim], var: &Var) -> u128
     rounded(slab_size(dims, var))
 }
 
-/// What the variables of a file need: all fixed ones with their padding, and those of one record with and without it.
+/// What the variables of a file need: all fixed ones with their padding, and those of one record
+/// with and without it.
 #[derive(Clone, Copy)]
 struct DataSizes {
     fixed: u128,
@@ -111,10 +115,13 @@ struct DataSizes {
 #[tactic(auto, using(crate::proofs::CappedSums::capped_small))]
 fn data_sizes(dims: &[Dim], vars: &[Var]) -> DataSizes
     requires { All (IsSoundVar dims.now) vars.now }
-    ensures fixed { result.fixed ≡ capped (sum_by (padded_size dims.now) (filter (λ v. not (is_record_var dims.now v)) vars.now)) }
+    ensures fixed { result.fixed ≡ capped
+        (sum_by (padded_size dims.now) (filter (λ v. not (is_record_var dims.now v)) vars.now)) }
     ensures record_vars { result.record_vars ≡ length (filter (is_record_var dims.now) vars.now) }
-    ensures padded { result.padded ≡ capped (sum_by (padded_size dims.now) (filter (is_record_var dims.now) vars.now)) }
-    ensures unpadded { result.unpadded ≡ capped (sum_by (slab_size dims.now) (filter (is_record_var dims.now) vars.now)) }
+    ensures padded { result.padded
+        ≡ capped (sum_by (padded_size dims.now) (filter (is_record_var dims.now) vars.now)) }
+    ensures unpadded { result.unpadded
+        ≡ capped (sum_by (slab_size dims.now) (filter (is_record_var dims.now) vars.now)) }
 {
     let mut fixed = 0u128;
     let mut record_vars = 0;
@@ -138,10 +145,11 @@ fn data_sizes(dims: &[Dim], vars: &[Var]) -> DataSizes
     }
 }
 
-/// The bytes of one record. A lone record variable has no padding: the format leaves it out for a byte, char or short,
-/// and the other types' sizes are multiples of four.
+/// The bytes of one record. A lone record variable has no padding: the format leaves it out for a
+/// byte, char or short, and the other types' sizes are multiples of four.
 fn record_size(sizes: &DataSizes) -> u128
-    ensures { result ≡ (if sizes.now.record_vars == 1 then sizes.now.unpadded else sizes.now.padded) }
+    ensures { result
+        ≡ (if sizes.now.record_vars == 1 then sizes.now.unpadded else sizes.now.padded) }
 {
     if sizes.record_vars == 1 {
         sizes.unpadded

@@ -6,8 +6,9 @@ use crate::padding::put_padded;
 use byteorder::{BigEndian, ByteOrder};
 use std::alloc::{AllocError, Global};
 
-/// The bytes of a slab of whole numbers: four bytes for each, the highest first. It has no padding, since its length is
-/// a multiple of four. The rule is the netCDF classic format's, for the type int.
+/// The bytes of a slab of whole numbers: four bytes for each, the highest first. It has no padding,
+/// since its length is a multiple of four. The rule is the netCDF classic format's, for the
+/// type int.
 #[tactic(auto, unfolding(wf_model::specs::Bytes::slab_bytes))]
 pub fn write_slab(alloc: Global, values: &[i32]) -> Result<Vec<u8>, AllocError>
     ensures bytes { IfOk result (λ v. v.items ≡ slab_bytes values.now) }
@@ -18,11 +19,13 @@ pub fn write_slab(alloc: Global, values: &[i32]) -> Result<Vec<u8>, AllocError>
     Ok(bytes)
 }
 
-/// The bytes of a text, with zero bytes up to a multiple of four where it is `padded`. The netCDF classic format pads
-/// each variable, and each record's part of one, but where the only record variable is a byte, char or short.
+/// The bytes of a text, with zero bytes up to a multiple of four where it is `padded`. The netCDF
+/// classic format pads each variable, and each record's part of one, but where the only record
+/// variable is a byte, char or short.
 pub fn write_chars(alloc: Global, text: &[u8], padded: bool) -> Result<Vec<u8>, AllocError>
     ensures bytes { IfOk result (λ v. v.items ≡ char_bytes padded text.now) }
-    ensures length { IfOk result (λ v. vec_len v ≡ (if padded then rounded (length text.now) else length text.now)) }
+    ensures length { IfOk result
+        (λ v. vec_len v ≡ (if padded then rounded (length text.now) else length text.now)) }
 {
     let mut bytes = Vec::new(alloc);
     if padded {

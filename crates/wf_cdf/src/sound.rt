@@ -1,6 +1,8 @@
-ghost use Rattle.std.specs.Prelude.{◌≡◌, ◌≤◌, ◌⊎◌, ◌*◌, ◌<◌, ◌^◌, ◌↔◌, All, length, filter, count_by, IsTrue, not};
+ghost use Rattle.std.specs.Prelude.{◌≡◌, ◌≤◌, ◌⊎◌, ◌*◌, ◌<◌, ◌^◌, ◌↔◌, All, length, filter};
+ghost use Rattle.std.specs.Prelude.{count_by, IsTrue, not};
 ghost use Rattle.wf_model.specs.Sizes.{type_size, is_record_dim, dim_of, rest_of};
-ghost use Rattle.wf_model.specs.SoundHeader.{IsCount, IsKind, IsSoundDim, IsSoundAtt, IsSoundVar, IsSoundHeader, BeginsFit};
+ghost use Rattle.wf_model.specs.SoundHeader.{IsCount, IsKind, IsSoundDim, IsSoundAtt, IsSoundVar};
+ghost use Rattle.wf_model.specs.SoundHeader.{IsSoundHeader, BeginsFit};
 
 use crate::size::{all_but_first, type_size};
 use wf_model::{Att, Dim, Header, Var};
@@ -64,7 +66,8 @@ fn are_there(dims: &[Dim], numbers: &[u32]) -> bool
 /// Whether none of these dimensions is the record dimension.
 fn are_fixed(dims: &[Dim], numbers: &[u32]) -> bool
     requires { All (λ n. n < length dims.now) numbers.now }
-    ensures { IsTrue result ↔ All (λ n. IsTrue (not (is_record_dim (dim_of dims.now n)))) numbers.now }
+    ensures { IsTrue result
+        ↔ All (λ n. IsTrue (not (is_record_dim (dim_of dims.now n)))) numbers.now }
 {
     for number in numbers {
         if dims[*number as usize].len == 0 {
@@ -77,7 +80,8 @@ fn are_fixed(dims: &[Dim], numbers: &[u32]) -> bool
 /// Whether the record dimension is none of these but the first.
 fn has_record_first(dims: &[Dim], numbers: &[u32]) -> bool
     requires { All (λ n. n < length dims.now) numbers.now }
-    ensures { IsTrue result ↔ All (λ n. IsTrue (not (is_record_dim (dim_of dims.now n)))) (rest_of numbers.now) }
+    ensures { IsTrue result
+        ↔ All (λ n. IsTrue (not (is_record_dim (dim_of dims.now n)))) (rest_of numbers.now) }
 {
     are_fixed(dims, all_but_first(numbers))
 }
@@ -110,10 +114,10 @@ fn are_sound_vars(dims: &[Dim], vars: &[Var]) -> bool
     vars.iter().all(|var| is_sound_var(dims, var))
 }
 
-/// Whether a header can be placed and written: it has version 1 or 2, numrecs below 4,294,967,295, types from 1 to 6, at
-/// most one record dimension and that the first of any variable's, dimension numbers from 0 and below their count,
-/// attributes' bytes as long as type and count say, and all counts, lengths and ranks at most 2,147,483,647. These are
-/// the netCDF classic format's rules.
+/// Whether a header can be placed and written: it has version 1 or 2, numrecs below 4,294,967,295,
+/// types from 1 to 6, at most one record dimension and that the first of any variable's, dimension
+/// numbers from 0 and below their count, attributes' bytes as long as type and count say, and all
+/// counts, lengths and ranks at most 2,147,483,647. These are the netCDF classic format's rules.
 pub fn is_sound(header: &Header) -> bool
     ensures { IsTrue result ↔ IsSoundHeader header.now }
 {
@@ -135,7 +139,8 @@ fn are_narrow(vars: &[Var]) -> bool
     vars.iter().all(|var| var.begin <= 4_294_967_295)
 }
 
-/// Whether each begin fits the version: it has four bytes in version 1, and eight in version 2 (netCDF classic format).
+/// Whether each begin fits the version: it has four bytes in version 1, and eight in version 2
+/// (netCDF classic format).
 pub fn begins_fit(header: &Header) -> bool
     ensures { IsTrue result ↔ BeginsFit header.now }
 {

@@ -1,25 +1,25 @@
 //! The headers of the files that this project writes: what a stream of a domain holds.
 
-ghost use Rattle.std.specs.Prelude.{◌≡◌, ℕ, ◌+◌, ◌-◌, ◌*◌, ◌<◌, ◌≤◌, ◌^◌, ◌∷◌, ◌++◌, [], if◌then◌else◌, All, IfOk, fold, length, map, position};
+ghost use Rattle.std.specs.Prelude.{◌≡◌, ℕ, ◌+◌, ◌-◌, ◌*◌, ◌<◌, ◌≤◌, ◌^◌, ◌∷◌, ◌++◌, []};
+ghost use Rattle.std.specs.Prelude.{if◌then◌else◌, All, IfOk, fold, length, map, position};
 ghost use Rattle.std.specs.List.{list_any};
 ghost use Rattle.std.specs.Str.{bytes_eq};
-ghost use Rattle.wf_model.specs.Headers.{text_att, int_att, dim_name, dim, dim_x, dim_y, dim_z, dims_of_level, add_dim, letters, level_atts, times_var, file_header};
+ghost use Rattle.wf_model.specs.Headers.{text_att, int_att, dim_name, dim, dim_x, dim_y, dim_z};
+ghost use Rattle.wf_model.specs.Headers.{dims_of_level, add_dim, letters, level_atts, times_var};
+ghost use Rattle.wf_model.specs.Headers.{file_header};
 ghost use Rattle.wf_model.specs.Plans.{domain_of, field_of};
 ghost use Rattle.wf_model.specs.Ranges.{IsRangedField};
 ghost use Rattle.wf_model.specs.Sound.{IsDomain, IsLevel};
 ghost use Rattle.wf_model.specs.Streams.{one_if, level_suffix, stream_levels, variable_name};
-ghost use Rattle.wf_cdf.specs.StreamLevels.{holds, dims_of_levels, number_named, level_numbers, written_var, global_atts};
+ghost use Rattle.wf_cdf.specs.StreamLevels.{holds, dims_of_levels, number_named, level_numbers};
+ghost use Rattle.wf_cdf.specs.StreamLevels.{written_var, global_atts};
 ghost use Rattle.wf_model.specs.declared.header.Dim.{Dim};
 
 use std::alloc::{AllocError, Global};
+use wf_model::cdf_type::{CHAR, INT};
+use wf_model::extents::file_points;
+use wf_model::limits::RESTART_STREAM;
 use wf_model::{Att, Bytes, Dim, Domain, Field, Header, List, Plan, Var};
-
-const CHAR: u8 = 2;
-
-const INT: u8 = 4;
-
-/// The stream of restart files; the others are history and auxiliary streams.
-const RESTART: u32 = 10;
 
 fn bytes(alloc: Global, text: &[u8]) -> Result<Bytes, AllocError>
     ensures { IfOk result (λ b. b ≡ text.now) }
@@ -72,13 +72,6 @@ fn dim(alloc: Global, name: &[u8], staggered: bool, len: u32) -> Result<Dim, All
     })
 }
 
-/// The points of a direction in files: there a staggered field has its extra point in a periodic direction too.
-fn file_extent(end: u32, staggered: bool) -> u32
-    ensures { result ≡ end - 1 + one_if staggered }
-{
-    end.saturating_sub(1) + u32::from(staggered)
-}
-
 /// The domain of a number, from 1.
 #[tactic(auto, unfolding(wf_model::specs::Plans::domain_of))]
 fn domain_of(plan: &Plan, domain: u32) -> &Domain
@@ -102,7 +95,7 @@ fn dim_x(alloc: Global, plan: &Plan, domain: u32, level: usize) -> Result<Dim, A
     ensures { IfOk result (λ x. x ≡ dim_x plan.now domain level) }
 {
     let field = field_of(plan, level);
-    let len = file_extent(domain_of(plan, domain).ide, field.stag_x);
+    let len = file_points(domain_of(plan, domain).ide, field.stag_x);
     dim(alloc, field.x_name.as_slice(), field.stag_x, len)
 }
 
@@ -111,7 +104,7 @@ fn dim_y(alloc: Global, plan: &Plan, domain: u32, level: usize) -> Result<Dim, A
     ensures { IfOk result (λ y. y ≡ dim_y plan.now domain level) }
 {
     let field = field_of(plan, level);
-    let len = file_extent(domain_of(plan, domain).jde, field.stag_y);
+    let len = file_points(domain_of(plan, domain).jde, field.stag_y);
     dim(alloc, field.y_name.as_slice(), field.stag_y, len)
 }
 
@@ -156,7 +149,8 @@ fn add_dims_of_level(
     level: usize,
 ) -> Result<Vec<Dim>, AllocError>
     requires { IsDomain plan.now domain × IsLevel plan.now level }
-    ensures dims { IfOk result (λ v. v.items ≡ fold add_dim dims.items (dims_of_level plan.now domain level)) }
+    ensures dims { IfOk result
+        (λ v. v.items ≡ fold add_dim dims.items (dims_of_level plan.now domain level)) }
     ensures few { IfOk result (λ v. length v.items ≤ length dims.items + 3) }
 {
     let dims = add_dim(dims, dim_x(alloc, plan, domain, level)?)?;
@@ -168,7 +162,8 @@ fn add_dims_of_level(
     }
 }
 
-/// `Time`, which is the record dimension, `DateStrLen`, and those of the levels, each at its first use.
+/// `Time`, which is the record dimension, `DateStrLen`, and those of the levels, each at its
+/// first use.
 #[tactic(auto, using(crate::proofs::LevelLoops::dims_more, crate::proofs::LevelLoops::dims_none))]
 fn dims_of(
     alloc: Global,
@@ -191,13 +186,13 @@ fn dims_of(
 
 // ---- levels of a stream
 
-/// Whether a stream holds a level: restart files all that are restarted, the others the last level of each field that
-/// names the stream.
+/// Whether a stream holds a level: restart files all that are restarted, the others the last level
+/// of each field that names the stream.
 fn is_in_stream(field: &Field, stream: u32) -> bool
     requires { stream ≤ 10 }
     ensures { result ≡ holds stream field.now }
 {
-    if stream == RESTART {
+    if stream == RESTART_STREAM {
         field.restart
     } else {
         field.last && (field.streams >> stream) & 1 == 1
@@ -214,8 +209,9 @@ fn with_level(mut levels: Vec<usize>, level: usize, is_held: bool) -> Result<Vec
     Ok(levels)
 }
 
-/// The levels that a stream holds, by number from 0, in order. Streams are 0 for history, 1 to 9 for auxiliary history and
-/// 10 for restart files, which hold all levels with `r`; the others hold the last level of each field with their `h`.
+/// The levels that a stream holds, by number from 0, in order. Streams are 0 for history, 1 to 9
+/// for auxiliary history and 10 for restart files, which hold all levels with `r`; the others hold
+/// the last level of each field with their `h`.
 #[tactic(auto, using(crate::proofs::LevelLoops::levels_more), unfolding(wf_model::specs::Streams::stream_levels))]
 pub fn stream_levels(alloc: Global, plan: &Plan, stream: u32) -> Result<Vec<usize>, AllocError>
     requires { stream ≤ 10 }
@@ -279,13 +275,14 @@ fn variable_name(alloc: Global, plan: &Plan, stream: u32, level: usize) -> Resul
 {
     let field = field_of(plan, level);
     let mut name = Vec::from_slice(alloc, field.dname.as_slice())?;
-    if stream == RESTART {
+    if stream == RESTART_STREAM {
         name.extend_from_slice(level_suffix(field, level))?;
     }
     Ok(Bytes::from_vec(name))
 }
 
-/// The number of the dimension of this name among the dimensions, or their count where there is none.
+/// The number of the dimension of this name among the dimensions, or their count where there
+/// is none.
 #[tactic(auto, using(wf_model::proofs::FirstPlaces::found, wf_model::proofs::FirstPlaces::not_found))]
 fn number_of(dims: &[Dim], name: &[u8]) -> u32
     requires { length dims.now < 2 ^ 32 }
@@ -309,7 +306,8 @@ fn dim_number(alloc: Global, dims: &[Dim], name: &[u8], staggered: bool) -> Resu
 /// The number of Time, and of z where the level has one.
 fn first_numbers(alloc: Global, dims: &[Dim], field: &Field) -> Result<Vec<u32>, AllocError>
     requires { length dims.now < 2 ^ 32 }
-    ensures { IfOk result (λ v. v.items ≡ 0 ∷ (if field.now.z then number_named dims.now (dim_name field.now.z_name field.now.stag_z) ∷ [] else [])) }
+    ensures { IfOk result (λ v. v.items ≡ 0 ∷ (if field.now.z
+        then number_named dims.now (dim_name field.now.z_name field.now.stag_z) ∷ [] else [])) }
 {
     if !field.z {
         return Ok(vec![in alloc; 0]?);
@@ -340,7 +338,8 @@ fn level_var(
     stream: u32,
     dims: &[Dim],
 ) -> Result<Var, AllocError>
-    requires { IsLevel plan.now level × IsRangedField (field_of plan.now level) × (length dims.now < 2 ^ 32) }
+    requires { IsLevel plan.now level × IsRangedField (field_of plan.now level)
+        × (length dims.now < 2 ^ 32) }
     ensures { IfOk result (λ v. v ≡ written_var plan.now stream dims.now level) }
 {
     Ok(Var {
@@ -379,7 +378,8 @@ fn vars_of(
     requires levels { All (IsLevel plan.now) levels.now }
     requires fields { All IsRangedField plan.now.fields }
     requires dims { length dims.now < 2 ^ 32 }
-    ensures { IfOk result (λ l. l ≡ times_var ∷ map (written_var plan.now stream dims.now) levels.now) }
+    ensures { IfOk result
+        (λ l. l ≡ times_var ∷ map (written_var plan.now stream dims.now) levels.now) }
 {
     let mut vars = vec![in alloc; times_var(alloc)?]?;
     for level in levels {
@@ -404,7 +404,7 @@ fn global_atts(
     let start = text_att(alloc, b"START_DATE", start_text)?;
     let grid = int_att(alloc, b"GRID_ID", domain)?;
     let mut atts = vec![in alloc; start, grid]?;
-    if stream == RESTART {
+    if stream == RESTART_STREAM {
         atts.push(int_att(alloc, b"STEPS", steps.min(2_147_483_647) as u32)?)?;
     }
     Ok(List::from_vec(atts))
@@ -412,10 +412,11 @@ fn global_atts(
 
 /// The header of the files of a stream of a domain, with no record and nothing placed.
 ///
-/// Domains count from 1. Streams 0 to 9 are history and auxiliary streams, which hold the last level of each field that
-/// names the stream, and 10 are restart files, which hold all levels that are restarted. Dimensions stand in the order of
-/// their first use, of a variable x, y, z; variables are `Times` and then the levels, by Time, z, y, x. `start_text` is
-/// the domain's start, and `steps`, which restart files hold, how many steps it has taken. Names, attributes and their
+/// Domains count from 1. Streams 0 to 9 are history and auxiliary streams, which hold the last
+/// level of each field that names the stream, and 10 are restart files, which hold all levels that
+/// are restarted. Dimensions stand in the order of their first use, of a variable x, y, z;
+/// variables are `Times` and then the levels, by Time, z, y, x. `start_text` is the domain's start,
+/// and `steps`, which restart files hold, how many steps it has taken. Names, attributes and their
 /// order are this project's own; dimensions and attributes are written as WRF writes them.
 #[tactic(auto, using(crate::proofs::LevelLoops::levels_few, crate::proofs::LevelLoops::levels_within), unfolding(wf_model::specs::Headers::file_header, wf_model::specs::Headers::dims_of, crate::specs::StreamLevels::dims_of_levels))]
 pub fn file_header(

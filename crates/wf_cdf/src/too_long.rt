@@ -1,8 +1,8 @@
 use std::error::Error;
 use std::fmt;
 
-/// That a file would be longer than its version allows: its length in bytes, or 2 to the 128 less one where it is more
-/// than that.
+/// That a file would be longer than its version allows: its length in bytes, or 2 to the 128 less
+/// one where it is more than that.
 #[derive(Debug, Clone, Copy, PartialEq, Eq)]
 pub struct TooLong {
     pub bytes: u128,

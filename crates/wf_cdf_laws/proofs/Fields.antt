@@ -40,7 +40,7 @@ count_again n h bytes at rest s =
     ∙ ap (λ b. cond b (Ok (n, at + 4)) (Err (cdf.Overlong at))) (le-leb n most (omega arith))
 
 -- bytes with their padding
-padded-length : (text : List ℕ) → length (padded text) ≡ rounded (length text)
+pub padded-length : (text : List ℕ) → length (padded text) ≡ rounded (length text)
 padded-length text = omega (arith, length-append text (replicate ((4 - length text % 4) % 4) 0), length-replicate {A = ℕ} ((4 - length text % 4) % 4) 0)
 
 pub padded_again : (text : List ℕ) → ReadsAgain (padded_bytes (length text)) (padded text) text

@@ -62,7 +62,7 @@ bytes_of_one (z ∷ zs) (suc k) h =
     ∙ ap (take 4) (drop-append-add (int_bytes z) (flat_map int_bytes zs) (4 * k))
     ∙ bytes_of_one zs k (omega arith)
 
-all_bytes : (values : List ℤ) → length (flat_map int_bytes values) ≡ 4 * length values
+pub all_bytes : (values : List ℤ) → length (flat_map int_bytes values) ≡ 4 * length values
 all_bytes [] = refl
 all_bytes (z ∷ zs) = let more = all_bytes zs in ap length (flat_map-cons int_bytes z zs) ∙ length-append (int_bytes z) (flat_map int_bytes zs) ∙ omega (arith, more)
 

@@ -1,2 +1,4 @@
 pub mod ReadAgain
 pub mod SlabsAgain
+pub mod FileNames
+pub mod FilesAgain

@@ -12,4 +12,5 @@ NumbersFit h = All (λ v. (v.vsize < 2 ^ 32) × (v.begin < 2 ^ 64)) h.vars
 -- a sound header's bytes are read to the same header, whatever follows them
 abbrev pub HeadersAreReadAgain : Type 0
 HeadersAreReadAgain =
-    (h : Header) (rest : List ℕ) → IsSoundHeader h → BeginsFit h → NumbersFit h → header_at (header_bytes h ++ rest) ≡ Ok h
+    (h : Header) (rest : List ℕ) → IsSoundHeader h → BeginsFit h → NumbersFit h →
+    header_at (header_bytes h ++ rest) ≡ Ok h

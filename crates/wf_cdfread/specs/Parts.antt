@@ -1,5 +1,6 @@
 -- Parts of a header, each of which is read by a call of its own.
-use Rattle.std.specs.Prelude.{ℕ, ◌==◌, ◌+◌, Bool, false, ◌&&◌, nat_lt, List, [], ◌∷◌, length, take, drop, Result, Ok, Err, if◌then◌else◌}
+use Rattle.std.specs.Prelude.{ℕ, ◌==◌, ◌+◌, Bool, false, ◌&&◌, nat_lt, List, [], ◌∷◌, length, take}
+use Rattle.std.specs.Prelude.{drop, Result, Ok, Err, if◌then◌else◌}
 use Rattle.wf_model.specs.declared.header.Header.{Header}
 use Rattle.wf_model.specs.declared.header.Dim.{Dim}
 use Rattle.wf_model.specs.declared.header.Att.{Att}
@@ -7,7 +8,8 @@ use Rattle.wf_model.specs.declared.header.Var.{Var}
 use Rattle.wf_model.specs.declared.cdf_error.CdfError.TheVariants as cdf
 use Rattle.wf_model.specs.declared.cdf_error.SlabError.{SlabError}
 use Rattle.wf_model.specs.declared.cdf_error.SlabError.TheVariants as slab
-use Rattle.wf_model.specs.CdfRead.{Reading, then_read, number, name, count, begin_size, letters, version_byte, record_count, list_size, dims, atts, items, var}
+use Rattle.wf_model.specs.CdfRead.{Reading, then_read, number, name, count, begin_size, letters}
+use Rattle.wf_model.specs.CdfRead.{version_byte, record_count, list_size, dims, atts, items, var}
 
 -- one dimension, of which a second one of the record is wrong
 abbrev pub dim : Bool → Reading Dim
@@ -22,7 +24,8 @@ begin_number version bytes at = number (begin_size version) bytes at
 
 -- one letter of those at the front
 abbrev pub letter : ℕ → Reading ℕ
-letter c bytes at = then_read (number 1 bytes at) λ b next. if b == c then Ok (b, next) else Err cdf.NotCdf
+letter c bytes at =
+    then_read (number 1 bytes at) λ b next. if b == c then Ok (b, next) else Err cdf.NotCdf
 
 -- C, D, F
 abbrev pub magic : List ℕ
@@ -46,7 +49,8 @@ att_list bytes at = atts bytes at
 
 -- the list of variables
 unfoldable pub var_list : ℕ → List Dim → Reading (List Var)
-var_list version ds bytes at = then_read (list_size 11 bytes at) λ n next. items (var version ds) n bytes next
+var_list version ds bytes at =
+    then_read (list_size 11 bytes at) λ n next. items (var version ds) n bytes next
 
 -- a header from its parts
 abbrev pub header_by_parts : Reading Header
@@ -59,4 +63,5 @@ header_by_parts bytes at =
 
 -- so many bytes of a file from a place on
 abbrev pub part_at : List ℕ → ℕ → ℕ → Result (List ℕ) SlabError
-part_at bytes at size = if nat_lt (length bytes) (at + size) then Err (slab.Truncated (length bytes)) else Ok (take size (drop at bytes))
+part_at bytes at size = if nat_lt (length bytes) (at + size)
+    then Err (slab.Truncated (length bytes)) else Ok (take size (drop at bytes))

@@ -86,9 +86,10 @@ fn header_by_parts(alloc: Global, bytes: &[u8], at: usize) -> Result<(Header, us
 
 /// The header at the front of a file's bytes.
 ///
-/// It takes versions 1 and 2, any begin, a list of count 0 with its tag or with tag 0, and attributes of any type. It
-/// ignores vsize and what padding holds, and names of dimensions may be the same. The format is the netCDF classic
-/// one's. The error is the first in reading order, or want of memory.
+/// It takes versions 1 and 2, any begin, a list of count 0 with its tag or with tag 0, and
+/// attributes of any type. It ignores vsize and what padding holds, and names of dimensions may be
+/// the same. The format is the netCDF classic one's. The error is the first in reading order, or
+/// want of memory.
 #[tactic(auto, using(crate::proofs::HeaderParts::header_at_parts))]
 pub fn read_header(alloc: Global, bytes: &[u8]) -> Result<Header, HeaderError>
     ensures header { IfOk result (λ h. HeaderAt bytes.now h) }

@@ -1,9 +1,11 @@
 //! The parts of a header: lists, dimensions, attributes and variables.
 //!
-//! A list grows by the items that were read of it, each of four bytes or more: its count reserves nothing.
+//! A list grows by the items that were read of it, each of four bytes or more: its count
+//! reserves nothing.
 
 ghost use Rattle.std.specs.Prelude.{◌≡◌, ◌<◌, ◌≤◌, ◌^◌, IfOk, length, true, false};
-ghost use Rattle.wf_model.specs.CdfRead.{list_size, dims, att, items, atts, dim_number, dim_numbers, var};
+ghost use Rattle.wf_model.specs.CdfRead.{list_size, dims, att, items, atts, dim_number};
+ghost use Rattle.wf_model.specs.CdfRead.{dim_numbers, var};
 ghost use Rattle.wf_model.specs.Reading.{Gives};
 ghost use Rattle.wf_model.specs.Sizes.{type_size};
 ghost use Rattle.wf_cdfread.specs.Faults.{fault_of};

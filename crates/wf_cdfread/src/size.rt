@@ -1,8 +1,11 @@
-//! How many bytes variables and records have. Numbers of 128 bits stay at their greatest value once they reach it.
+//! How many bytes variables and records have. Numbers of 128 bits stay at their greatest value once
+//! they reach it.
 
 ghost use Rattle.std.specs.Prelude.{◌≡◌, ◌≤◌, length, filter, sum_by, ◌==◌, if◌then◌else◌};
 ghost use Rattle.std.specs.Str.{bytes_eq};
-ghost use Rattle.wf_model.specs.Sizes.{type_size, dim_of, rest_of, begins_with_record, is_record_var, lengths, product, slab_dims, slab_size, padded_size, rounded, record_size};
+ghost use Rattle.wf_model.specs.Sizes.{type_size, dim_of, rest_of, begins_with_record};
+ghost use Rattle.wf_model.specs.Sizes.{is_record_var, lengths, product, slab_dims, slab_size};
+ghost use Rattle.wf_model.specs.Sizes.{padded_size, rounded, record_size};
 ghost use Rattle.wf_cdf.specs.Capped.{capped};
 
 use wf_model::{Dim, Header, Var};
@@ -139,8 +142,10 @@ struct RecordSizes {
 #[tactic(auto, using(wf_cdf::proofs::CappedSums::capped_small))]
 fn record_sizes(dims: &[Dim], vars: &[Var]) -> RecordSizes
     ensures vars { result.vars ≡ length (filter (is_record_var dims.now) vars.now) }
-    ensures padded { result.padded ≡ capped (sum_by (padded_size dims.now) (filter (is_record_var dims.now) vars.now)) }
-    ensures unpadded { result.unpadded ≡ capped (sum_by (slab_size dims.now) (filter (is_record_var dims.now) vars.now)) }
+    ensures padded { result.padded
+        ≡ capped (sum_by (padded_size dims.now) (filter (is_record_var dims.now) vars.now)) }
+    ensures unpadded { result.unpadded
+        ≡ capped (sum_by (slab_size dims.now) (filter (is_record_var dims.now) vars.now)) }
 {
     let mut record_vars = 0;
     let mut padded = 0u128;
@@ -159,8 +164,8 @@ fn record_sizes(dims: &[Dim], vars: &[Var]) -> RecordSizes
     }
 }
 
-/// The bytes of one record. A lone record variable has no padding: the format leaves it out for a byte, char or short,
-/// and the other types' sizes are multiples of four.
+/// The bytes of one record. A lone record variable has no padding: the format leaves it out for a
+/// byte, char or short, and the other types' sizes are multiples of four.
 #[tactic(auto, using(wf_cdf::proofs::Sizes::capped_record_size))]
 pub(crate) fn record_size(header: &Header) -> u128
     ensures { result ≡ capped (record_size header.now) }

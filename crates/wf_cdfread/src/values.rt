@@ -1,11 +1,13 @@
 //! The values of a variable in a record.
 
-ghost use Rattle.std.specs.Prelude.{◌≡◌, ◌+◌, ◌*◌, ◌/◌, ◌%◌, ◌^◌, ◌<◌, [], ◌∷◌, IfOk, IfErr, length, find, Ok, Some, ◌&&◌, nat_lt};
+ghost use Rattle.std.specs.Prelude.{◌≡◌, ◌+◌, ◌*◌, ◌/◌, ◌%◌, ◌^◌, ◌<◌, [], ◌∷◌, IfOk, IfErr};
+ghost use Rattle.std.specs.Prelude.{length, find, Ok, Some, ◌&&◌, nat_lt};
 ghost use Rattle.std.specs.Option.{option_copied};
 ghost use Rattle.std.specs.Str.{bytes_eq};
 ghost use Rattle.wf_model.specs.CdfRead.{has_name, slab_bytes_of, chars_at, slab_at, ints};
 ghost use Rattle.wf_model.specs.Reading.{Fails, Gives};
-ghost use Rattle.wf_model.specs.Sizes.{is_record_var, lengths, rest_of, product, type_size, record_size};
+ghost use Rattle.wf_model.specs.Sizes.{is_record_var, lengths, rest_of, product, type_size};
+ghost use Rattle.wf_model.specs.Sizes.{record_size};
 ghost use Rattle.wf_cdf.specs.Capped.{capped};
 ghost use Rattle.wf_cdfread.specs.Faults.{slab_fault_of};
 ghost use Rattle.wf_cdfread.specs.Parts.{part_at};
@@ -16,11 +18,8 @@ use crate::size::{
 };
 use byteorder::{BigEndian, ByteOrder};
 use std::alloc::{AllocError, Global};
+use wf_model::cdf_type::{CHAR, INT};
 use wf_model::{Header, SlabError, Var};
-
-const CHAR: u8 = 2;
-
-const INT: u8 = 4;
 
 /// The first variable of this name.
 fn find_var<'a>(vars: &'a [Var], name: &[u8]) -> Option<&'a Var>
@@ -31,7 +30,8 @@ fn find_var<'a>(vars: &'a [Var], name: &[u8]) -> Option<&'a Var>
 
 /// Whether the file has a slab of this variable and shape in a record.
 fn has_slab(header: &Header, var: &Var, shape: &[u32], rec: u32) -> bool
-    ensures { result ≡ (is_record_var header.now.dims var.now && (bytes_eq (lengths header.now.dims (rest_of var.now.dims)) shape.now && nat_lt rec header.now.numrecs)) }
+    ensures { result ≡ (is_record_var header.now.dims var.now && (bytes_eq (lengths header.now.dims
+        (rest_of var.now.dims)) shape.now && nat_lt rec header.now.numrecs)) }
 {
     let dims = header.dims.as_slice();
     let numbers = var.dims.as_slice();
@@ -78,14 +78,15 @@ fn slab_part<'a>(
     shape: &[u32],
     rec: u32,
 ) -> Result<&'a [u8], SlabError>
-    ensures value { Gives (λ x. x.now) Some result (part_at bytes.now (var.now.begin + rec * record_size header.now) (product shape.now * type_size kind)) }
+    ensures value { Gives (λ x. x.now) Some result (part_at bytes.now
+        (var.now.begin + rec * record_size header.now) (product shape.now * type_size kind)) }
     ensures length { IfOk result (λ x. length x.now ≡ product shape.now * type_size kind) }
 {
     part(bytes, place_of(header, var, rec), size_of_slab(shape, kind))
 }
 
-/// The bytes of a variable in a record, counted from 0, of this type: 2 for char, 4 for int. They are found and not read as
-/// numbers, and no memory is taken. All else is as for [`slab`].
+/// The bytes of a variable in a record, counted from 0, of this type: 2 for char, 4 for int. They
+/// are found and not read as numbers, and no memory is taken. All else is as for [`slab`].
 pub fn find_slab<'a>(
     bytes: &'a [u8],
     header: &Header,
@@ -94,7 +95,8 @@ pub fn find_slab<'a>(
     shape: &[u32],
     rec: u32,
 ) -> Result<&'a [u8], SlabError>
-    ensures value { Gives (λ x. x.now) Some result (slab_bytes_of bytes.now header.now (find (has_name name.now) header.now.vars) kind shape.now rec) }
+    ensures value { Gives (λ x. x.now) Some result (slab_bytes_of bytes.now header.now
+        (find (has_name name.now) header.now.vars) kind shape.now rec) }
     ensures length { IfOk result (λ x. length x.now ≡ product shape.now * type_size kind) }
 {
     let Some(var) = find_var(header.vars.as_slice(), name) else {
@@ -127,13 +129,15 @@ fn numbers(alloc: Global, bytes: &[u8]) -> Result<Vec<i32>, AllocError>
     Ok(values)
 }
 
-/// The numbers of an int variable in a record, counted from 0. The header is the one that was read of the same bytes,
-/// and the shape holds the lengths of the variable's dimensions behind the record's, the slowest first.
+/// The numbers of an int variable in a record, counted from 0. The header is the one that was read
+/// of the same bytes, and the shape holds the lengths of the variable's dimensions behind the
+/// record's, the slowest first.
 ///
-/// The variable is the first of that name. Errors, the first of them: `NoVariable`; `WrongType` where it is not of type
-/// int; `WrongShape` where its first dimension is not the record dimension, its other lengths differ from the shape, or
-/// the record is not below the header's numrecs; `Truncated` where the slab ends past the file. The places are those of
-/// the netCDF classic format: begin, and the record's number times the size of all record variables. Numbers are
+/// The variable is the first of that name. Errors, the first of them: `NoVariable`; `WrongType`
+/// where it is not of type int; `WrongShape` where its first dimension is not the record dimension,
+/// its other lengths differ from the shape, or the record is not below the header's numrecs;
+/// `Truncated` where the slab ends past the file. The places are those of the netCDF classic
+/// format: begin, and the record's number times the size of all record variables. Numbers are
 /// reserved once their bytes are found in the file.
 #[tactic(auto, unfolding(wf_model::specs::CdfRead::slab_at))]
 pub fn slab(
@@ -144,15 +148,18 @@ pub fn slab(
     shape: &[u32],
     rec: u32,
 ) -> Result<Vec<i32>, ValuesError>
-    ensures values { IfOk result (λ v. slab_at bytes.now header.now name.now shape.now rec ≡ Ok v.items) }
-    ensures fault { IfErr result (λ e. Fails (slab_fault_of e) (slab_at bytes.now header.now name.now shape.now rec)) }
+    ensures values { IfOk result
+        (λ v. slab_at bytes.now header.now name.now shape.now rec ≡ Ok v.items) }
+    ensures fault { IfErr result
+        (λ e. Fails (slab_fault_of e) (slab_at bytes.now header.now name.now shape.now rec)) }
 {
     let found = find_slab(bytes, header, name, INT, shape, rec)?;
     Ok(numbers(alloc, found)?)
 }
 
-/// The characters of a char variable in a record, counted from 0: its one dimension behind the record's has this length.
-/// All else is as for `slab`, and `WrongType` comes where the variable is not of type char.
+/// The characters of a char variable in a record, counted from 0: its one dimension behind the
+/// record's has this length. All else is as for `slab`, and `WrongType` comes where the variable is
+/// not of type char.
 #[tactic(auto, unfolding(wf_model::specs::CdfRead::chars_at))]
 pub fn chars(
     alloc: Global,
@@ -162,8 +169,10 @@ pub fn chars(
     length: u32,
     rec: u32,
 ) -> Result<Vec<u8>, ValuesError>
-    ensures chars { IfOk result (λ v. chars_at bytes.now header.now name.now length rec ≡ Ok v.items) }
-    ensures fault { IfErr result (λ e. Fails (slab_fault_of e) (chars_at bytes.now header.now name.now length rec)) }
+    ensures chars { IfOk result
+        (λ v. chars_at bytes.now header.now name.now length rec ≡ Ok v.items) }
+    ensures fault { IfErr result
+        (λ e. Fails (slab_fault_of e) (chars_at bytes.now header.now name.now length rec)) }
 {
     let found = find_slab(bytes, header, name, CHAR, &[length], rec)?;
     Ok(Vec::from_slice(alloc, found)?)

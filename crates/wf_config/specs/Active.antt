@@ -6,7 +6,8 @@ use Rattle.wf_model.specs.declared.registry.Entry.{Entry}
 use Rattle.wf_model.specs.declared.registry.Entry.TheVariants as entry
 use Rattle.wf_model.specs.Letters.{Text, lower}
 use Rattle.wf_model.specs.Groups.{groups_of, names_in}
-use Rattle.wf_model.specs.Config.{Values, first_int, is_int, is_dimspec, is_halo, is_period, values_of}
+use Rattle.wf_model.specs.Config.{Values, first_int, is_int, is_dimspec, is_halo, is_period}
+use Rattle.wf_model.specs.Config.{values_of}
 use Rattle.wf_config.specs.declared.active.Listing.{Listing}
 use Rattle.wf_config.specs.declared.active.Sort.{Sort}
 use Rattle.wf_config.specs.declared.active.Sort.TheVariants as sort
@@ -27,7 +28,8 @@ group_listings test group = map (λ name. (lower name, test)) (names_in group)
 
 -- what an entry lists
 abbrev pub listings : Values → Entry → List Listed
-listings values (entry.Package name by value list) = flat_map (group_listings (holds values by value)) (groups_of list)
+listings values (entry.Package name by value list) =
+    flat_map (group_listings (holds values by value)) (groups_of list)
 listings values other = []
 
 abbrev pub is_listing : Text → Listed → Bool
@@ -35,10 +37,12 @@ is_listing symbol l = bytes_eq l.0 symbol
 
 -- none of these lists the symbol, or one that does holds
 abbrev pub active_in : List Listed → Text → Bool
-active_in ls symbol = not (list_any (is_listing symbol) ls) || list_any (λ l. is_listing symbol l && l.1) ls
+active_in ls symbol =
+    not (list_any (is_listing symbol) ls) || list_any (λ l. is_listing symbol l && l.1) ls
 
 abbrev pub is_active_in : List Listed → Entry → Bool
-is_active_in ls (entry.State kind symbol dims levels stagger io dname description units) = active_in ls symbol
+is_active_in ls (entry.State kind symbol dims levels stagger io dname description units) =
+    active_in ls symbol
 is_active_in ls other = false
 
 abbrev pub is_of_sort : Sort → Entry → Bool

@@ -8,7 +8,8 @@ use Rattle.wf_model.specs.NamesOf.{level_number}
 
 -- an entry's symbol, and the numbers of its first and last level
 abbrev pub field_of : ℕ → Entry → List (Text × ℕ × ℕ)
-field_of first e = map (λ symbol. (symbol, first, first + length (entry_levels e) - 1)) (entry_symbol e)
+field_of first e =
+    map (λ symbol. (symbol, first, first + length (entry_levels e) - 1)) (entry_symbol e)
 
 -- the numbers of the levels that a group names
 abbrev pub level_numbers : List (Text × Bool) → Text → List ℕ

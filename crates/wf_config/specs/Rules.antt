@@ -1,5 +1,6 @@
 -- What the rules of the code stand for.
-use Rattle.std.specs.Prelude.{ℕ, ℤ, pos, Bool, not, ◌&&◌, nat_lt, List, length, filter, map, Option, Some, None, is_some, if◌then◌else◌}
+use Rattle.std.specs.Prelude.{ℕ, ℤ, pos, Bool, not, ◌&&◌, nat_lt, List, length, filter, map, Option}
+use Rattle.std.specs.Prelude.{Some, None, is_some, if◌then◌else◌}
 use Rattle.std.specs.List.{enumerate_from, list_all, list_any}
 use Rattle.std.specs.Str.{bytes_eq}
 use Rattle.wf_model.specs.declared.namelist.Value.{Value}
@@ -10,8 +11,11 @@ use Rattle.wf_model.specs.Reading.{fault_if, first_fault}
 use Rattle.wf_model.specs.Letters.{Text, is_dash, is_name}
 use Rattle.wf_model.specs.ValueForms.{whole_value}
 use Rattle.wf_model.specs.Namelist.{Item}
-use Rattle.wf_model.specs.Config.{is_judged, is_of, out_of_range, rule_named, same_type, with_default}
-use Rattle.wf_model.specs.BuiltIns.{ValueType, an_integer, a_real, a_logical, a_character, NameRule, row, words, to, minus_one_or, any, no, most_values, first_domain_only}
+use Rattle.wf_model.specs.Config.{is_judged, is_of, out_of_range, rule_named, same_type}
+use Rattle.wf_model.specs.Config.{with_default}
+use Rattle.wf_model.specs.BuiltIns.{ValueType, an_integer, a_real, a_logical, a_character, NameRule}
+use Rattle.wf_model.specs.BuiltIns.{row, words, to, minus_one_or, any, no, most_values}
+use Rattle.wf_model.specs.BuiltIns.{first_domain_only}
 use Rattle.wf_config.specs.declared.rule.ValueKind.{ValueKind}
 use Rattle.wf_config.specs.declared.rule.ValueKind.TheVariants as kind
 use Rattle.wf_config.specs.declared.rule.Range.{Range}
@@ -73,7 +77,8 @@ row_rule r n = record {
 
 -- the rules of a row's names
 abbrev pub row_of : Row → List NameRule
-row_of r = row (words r.names.now) r.group.now r.each (type_of_kind r.kind) (row_default_in r.default) (allowed_in r.range)
+row_of r = row (words r.names.now) r.group.now r.each (type_of_kind r.kind)
+    (row_default_in r.default) (allowed_in r.range)
 
 -- ---- the Registry's names
 
@@ -83,7 +88,8 @@ whole_default word = if is_dash word then Int (pos 0) else Int (whole_value word
 
 -- rules with the default of the first of these declared rules that has their name
 abbrev pub with_defaults : List NameRule → List NameRule → List NameRule
-with_defaults declared rules = map (λ (b : NameRule). with_default (rule_named declared b.name) b) rules
+with_defaults declared rules =
+    map (λ (b : NameRule). with_default (rule_named declared b.name) b) rules
 
 -- the declared rules of which no name has a rule
 abbrev pub others : List NameRule → List NameRule → List NameRule
@@ -108,7 +114,8 @@ wanted domains r = if r.each then domains else 1
 
 -- a rule of the same name, but of another group or type
 abbrev pub contradicts : NameRule → NameRule → Bool
-contradicts r b = bytes_eq b.name r.name && not (bytes_eq b.group r.group && same_type b.type r.type)
+contradicts r b =
+    bytes_eq b.name r.name && not (bytes_eq b.group r.group && same_type b.type r.type)
 
 abbrev pub wrong_rule_in : List NameRule → NameRule → Option ConfigFault
 wrong_rule_in rules r = fault_if (list_any (contradicts r) rules) (WrongType r.name)
@@ -122,6 +129,7 @@ abbrev pub known_fault : ℤ → Item → NameRule → Option ConfigFault
 known_fault domains i r =
     if bytes_eq r.group i.0
     then (if list_all (is_of r.type) i.2
-    then (if nat_lt r.most (length i.2) then Some (TooMany i.1) else first_fault (map (judged_fault domains r) (enumerate_from 1 i.2)))
+    then (if nat_lt r.most (length i.2) then Some (TooMany i.1)
+    else first_fault (map (judged_fault domains r) (enumerate_from 1 i.2)))
     else Some (WrongType i.1))
     else Some (UnknownItem i.1)

@@ -2,9 +2,9 @@
 
 ghost use Rattle.std.specs.Prelude.{◌≡◌, ◌++◌, ◌&&◌, ◌||◌, IfOk, OnOk, not, filter, flat_map, map};
 ghost use Rattle.std.specs.List.{list_any};
-ghost use Rattle.wf_config.specs.Active.{active_in, group_listings, holds, is_active_in, is_listing, is_of_sort, listings, pair_of};
+ghost use Rattle.wf_config.specs.Active.{active_in, group_listings, holds, is_active_in};
+ghost use Rattle.wf_config.specs.Active.{is_listing, is_of_sort, listings, pair_of};
 
-use crate::copies::copy_entry;
 use crate::given::first_int;
 use crate::parts::names_in;
 use crate::values::NameValues;
@@ -37,7 +37,8 @@ fn add_group(
     group: &[u8],
     holds: bool,
 ) -> Result<(), AllocError>
-    ensures { OnOk result (map pair_of listings.new.items ≡ map pair_of listings.old.items ++ group_listings holds group.now) }
+    ensures { OnOk result (map pair_of listings.new.items
+        ≡ map pair_of listings.old.items ++ group_listings holds group.now) }
 {
     let names = names_in(alloc, group)?;
     for name in names.as_slice() {
@@ -54,7 +55,8 @@ fn add_listings(
     values: &[NameValues],
     entry: &Entry,
 ) -> Result<(), AllocError>
-    ensures { OnOk result (map pair_of made.new.items ≡ map pair_of made.old.items ++ listings values.now entry.now) }
+    ensures { OnOk result
+        (map pair_of made.new.items ≡ map pair_of made.old.items ++ listings values.now entry.now) }
 {
     let Entry::Package {
         symbol,
@@ -97,13 +99,15 @@ fn is_listed(listings: &[Listing], symbol: &[u8]) -> bool
 }
 
 fn is_held(listings: &[Listing], symbol: &[u8]) -> bool
-    ensures { result ≡ list_any (λ l. is_listing symbol.now (pair_of l) && (pair_of l).1) listings.now }
+    ensures { result
+        ≡ list_any (λ l. is_listing symbol.now (pair_of l) && (pair_of l).1) listings.now }
 {
     listings.iter().any(|listing| listing.symbol.as_slice() == symbol && listing.holds)
 }
 
 fn is_free_or_held(listings: &[Listing], symbol: &[u8]) -> bool
-    ensures { result ≡ (not (list_any (λ l. is_listing symbol.now (pair_of l)) listings.now) || list_any (λ l. is_listing symbol.now (pair_of l) && (pair_of l).1) listings.now) }
+    ensures { result ≡ (not (list_any (λ l. is_listing symbol.now (pair_of l)) listings.now)
+        || list_any (λ l. is_listing symbol.now (pair_of l) && (pair_of l).1) listings.now) }
 {
     !is_listed(listings, symbol) || is_held(listings, symbol)
 }
@@ -131,12 +135,13 @@ pub(crate) fn active_fields(
     listings: &[Listing],
     entries: &[Entry],
 ) -> Result<Vec<Entry>, AllocError>
-    ensures { IfOk result (λ v. v.items ≡ filter (is_active_in (map pair_of listings.now)) entries.now) }
+    ensures { IfOk result
+        (λ v. v.items ≡ filter (is_active_in (map pair_of listings.now)) entries.now) }
 {
     let mut fields = Vec::new(alloc);
     for entry in entries {
         if is_active(listings, entry) {
-            fields.push(copy_entry(alloc, entry)?)?;
+            fields.push(entry.copy(alloc)?)?;
         }
     }
     Ok(fields)
@@ -172,7 +177,7 @@ pub(crate) fn entries_of_sort(
     let mut kept = Vec::new(alloc);
     for entry in entries {
         if is_of_sort(sort, entry) {
-            kept.push(copy_entry(alloc, entry)?)?;
+            kept.push(entry.copy(alloc)?)?;
         }
     }
     Ok(kept)

@@ -35,20 +35,24 @@ fn config_from(
     })
 }
 
-/// The values of each name that the built-in table or the Registry knows, and the active fields; or the first refusal.
+/// The values of each name that the built-in table or the Registry knows, and the active fields; or
+/// the first refusal.
 ///
-/// A name has the values that the namelist gives it. What a domain is not given is the Registry's default, or else the
-/// built-in one, but for the names of a start's date and time domain 1's value. A field is active if no package lists
-/// it, or one that lists it holds: where the first value of the package's name is the package's own.
+/// A name has the values that the namelist gives it. What a domain is not given is the Registry's
+/// default, or else the built-in one, but for the names of a start's date and time domain 1's
+/// value. A field is active if no package lists it, or one that lists it holds: where the first
+/// value of the package's name is the package's own.
 ///
-/// Refused is, in this order: a built-in name that the Registry declares with another group or type; in the order of
-/// the namelist an item that no rule knows, or whose values are of another type, are too many, or are out of range;
-/// a default that some domain has and that is out of range; and an active field that is not integer. Items of groups
-/// of which nothing is known mean nothing. The names, groups and defaults of the built-in table are those of WRF's
-/// namelist; the ranges and the order of refusals are this project's own.
+/// Refused is, in this order: a built-in name that the Registry declares with another group or
+/// type; in the order of the namelist an item that no rule knows, or whose values are of another
+/// type, are too many, or are out of range; a default that some domain has and that is out of
+/// range; and an active field that is not integer. Items of groups of which nothing is known mean
+/// nothing. The names, groups and defaults of the built-in table are those of WRF's namelist; the
+/// ranges and the order of refusals are this project's own.
 ///
-/// Want of memory may also be told where a default of the Registry is a whole number that 128 bits don't hold, or a
-/// number of entries one that 64 bits don't hold, which no Registry that was read has.
+/// Want of memory may also be told where a default of the Registry is a whole number that 128 bits
+/// don't hold, or a number of entries one that 64 bits don't hold, which no Registry that was
+/// read has.
 pub fn bind(alloc: Global, registry: &Registry, namelist: &Namelist) -> Result<Config, ConfigError>
     ensures { Gives (λ c. c) fault_of result (config_of registry.now namelist.now) }
 {

@@ -1,20 +1,21 @@
-//! The names that need no entry in the Registry: their group, whether they have a value for each domain, their type,
-//! their default and their range. The names and groups are those of WRF's namelist.
+//! The names that need no entry in the Registry: their group, whether they have a value for each
+//! domain, their type, their default and their range. The names and groups are those of
+//! WRF's namelist.
 
 ghost use Rattle.std.specs.Prelude.{◌≡◌, ◌++◌, IfOk, IsTrue, OnOk, map, pos, codes};
 ghost use Rattle.std.specs.List.{list_all};
 ghost use Rattle.wf_model.specs.Letters.{is_name};
 ghost use Rattle.wf_model.specs.BuiltIns.{built_ins, rows};
-ghost use Rattle.wf_config.specs.Rules.{default_in, has_names, row_default_in, row_of, row_rule, rule_of};
+ghost use Rattle.wf_config.specs.Rules.{default_in, has_names, row_default_in, row_of, row_rule};
+ghost use Rattle.wf_config.specs.Rules.{rule_of};
 
 use crate::built_ins::RowDefault::{FirstDomainOnly, Int, No};
-use crate::copies::copy_bytes;
 use crate::rule::Range::{Any, Between, MinusOneOr};
 use crate::rule::ValueKind::{Integer, Logical, Real};
 use crate::rule::{DefaultValue, Range, Rule, ValueKind};
 use crate::words::words;
 use std::alloc::{AllocError, Global};
-use wf_model::{Name, Value};
+use wf_model::{Bytes, Name, Value};
 
 /// The default of each domain.
 #[derive(Clone, Copy)]
@@ -51,10 +52,13 @@ const EACH: bool = true;
 const ONCE: bool = false;
 
 const AUXHIST_INTERVALS: &str =
-    "auxhist1_interval auxhist2_interval auxhist3_interval auxhist4_interval auxhist5_interval auxhist6_interval auxhist7_interval auxhist8_interval auxhist9_interval";
+    "auxhist1_interval auxhist2_interval auxhist3_interval auxhist4_interval auxhist5_interval \
+     auxhist6_interval auxhist7_interval auxhist8_interval auxhist9_interval";
 
 const FRAMES_PER_FILE: &str =
-    "frames_per_outfile frames_per_auxhist1 frames_per_auxhist2 frames_per_auxhist3 frames_per_auxhist4 frames_per_auxhist5 frames_per_auxhist6 frames_per_auxhist7 frames_per_auxhist8 frames_per_auxhist9";
+    "frames_per_outfile frames_per_auxhist1 frames_per_auxhist2 frames_per_auxhist3 \
+     frames_per_auxhist4 frames_per_auxhist5 frames_per_auxhist6 frames_per_auxhist7 \
+     frames_per_auxhist8 frames_per_auxhist9";
 
 /// The table, in its order.
 fn rows() -> [Row; 37]
@@ -378,7 +382,7 @@ fn row_rule(alloc: Global, row: &Row, name: &[u8]) -> Result<Rule, AllocError>
 {
     Ok(Rule {
         name: Name::from_vec(Vec::from_slice(alloc, name)?),
-        group: copy_bytes(alloc, row.group.as_bytes())?,
+        group: Bytes::copy_of(alloc, row.group.as_bytes())?,
         kind: row.kind,
         each: row.each,
         most: if row.each { 21 } else { 1 },
@@ -390,7 +394,8 @@ fn row_rule(alloc: Global, row: &Row, name: &[u8]) -> Result<Rule, AllocError>
 /// Adds the rules of the names of a row.
 fn add_row(alloc: Global, rules: &mut Vec<Rule>, row: &Row) -> Result<(), AllocError>
     requires { IsTrue (has_names row.now) }
-    ensures { OnOk result (map rule_of rules.new.items ≡ map rule_of rules.old.items ++ row_of row.now) }
+    ensures { OnOk result
+        (map rule_of rules.new.items ≡ map rule_of rules.old.items ++ row_of row.now) }
 {
     let names = words(alloc, row.names.as_bytes())?;
     for name in names.as_slice() {

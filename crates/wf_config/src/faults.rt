@@ -1,4 +1,5 @@
-//! What is wrong in declarations, in items, in defaults and in fields, each in order; none where nothing is.
+//! What is wrong in declarations, in items, in defaults and in fields, each in order; none where
+//! nothing is.
 
 ghost use Rattle.std.specs.Prelude.{◌≡◌, ◌≤◌, IfOk, Some, ℕ, length, map, pos, int_le, not, ◌||◌};
 ghost use Rattle.std.specs.List.{enumerate_from, list_all, list_any};
@@ -6,15 +7,16 @@ ghost use Rattle.std.specs.Option.{option_copied, option_map};
 ghost use Rattle.wf_model.specs.BuiltIns.{built_ins};
 ghost use Rattle.wf_model.specs.declared.config.ConfigFault.TheVariants.{UnknownItem};
 ghost use Rattle.wf_model.specs.Reading.{first_fault};
-ghost use Rattle.wf_model.specs.Config.{default_fault, float_fault, is_of, item_fault, missing_value, out_of_range, range_fault, rule_fault};
-ghost use Rattle.wf_config.specs.Rules.{contradicts, judged_fault, known_fault, rule_of, type_of_kind, wanted, wrong_rule_in};
+ghost use Rattle.wf_model.specs.Config.{default_fault, float_fault, is_of, item_fault};
+ghost use Rattle.wf_model.specs.Config.{missing_value, out_of_range, range_fault, rule_fault};
+ghost use Rattle.wf_config.specs.Rules.{contradicts, judged_fault, known_fault, rule_of};
+ghost use Rattle.wf_config.specs.Rules.{type_of_kind, wanted, wrong_rule_in};
 
-use crate::copies::copy_bytes;
 use crate::given::{Item, given, is_in_32};
 use crate::rule::{DefaultValue, Rule, ValueKind, rule_named};
 use crate::values::{is_start_name, wanted};
 use std::alloc::{AllocError, Global};
-use wf_model::{ConfigFault, Entry, Value};
+use wf_model::{Bytes, ConfigFault, Entry, Value};
 
 /// A fault, or none; or want of memory.
 type Found = Result<Option<ConfigFault>, AllocError>;
@@ -43,13 +45,14 @@ fn wrong_rule(alloc: Global, table: &[Rule], rule: &Rule) -> Found
     if !is_contradicted(table, rule) {
         return Ok(None);
     }
-    let name = copy_bytes(alloc, rule.name.as_slice())?;
+    let name = Bytes::copy_of(alloc, rule.name.as_slice())?;
     Ok(Some(ConfigFault::WrongType { name }))
 }
 
 /// The first built-in name that the Registry declares with another group or type.
 pub(crate) fn declarations_fault(alloc: Global, table: &[Rule], declared: &[Rule]) -> Found
-    ensures { IfOk result (λ f. f ≡ first_fault (map (λ r. wrong_rule_in (map rule_of table.now) (rule_of r)) declared.now)) }
+    ensures { IfOk result (λ f. f
+        ≡ first_fault (map (λ r. wrong_rule_in (map rule_of table.now) (rule_of r)) declared.now)) }
 {
     for rule in declared {
         let fault = wrong_rule(alloc, table, rule)?;
@@ -72,15 +75,15 @@ fn out_of_range(alloc: Global, rule: &Rule, value: &Value) -> Found
     if !rule.kind.is_same(ValueKind::Integer) || (is_in_32(*number) && rule.range.allows(*number)) {
         return Ok(None);
     }
-    let name = copy_bytes(alloc, rule.name.as_slice())?;
+    let name = Bytes::copy_of(alloc, rule.name.as_slice())?;
     Ok(Some(ConfigFault::OutOfRange {
         name,
         value: *number,
     }))
 }
 
-/// The same of the value with this number, from 1; of a name with a value for each domain, those past the last domain
-/// aren't judged.
+/// The same of the value with this number, from 1; of a name with a value for each domain, those
+/// past the last domain aren't judged.
 fn judged_fault(alloc: Global, domains: i128, rule: &Rule, number: usize, value: &Value) -> Found
     ensures { IfOk result (λ f. f ≡ judged_fault domains (rule_of rule.now) (number, value.now)) }
 {
@@ -93,7 +96,8 @@ fn judged_fault(alloc: Global, domains: i128, rule: &Rule, number: usize, value:
 
 /// The first judged value that is out of range.
 fn range_fault(alloc: Global, domains: i128, rule: &Rule, values: &[Value]) -> Found
-    ensures { IfOk result (λ f. f ≡ first_fault (map (judged_fault domains (rule_of rule.now)) (enumerate_from 1 values.now))) }
+    ensures { IfOk result (λ f. f ≡ first_fault
+        (map (judged_fault domains (rule_of rule.now)) (enumerate_from 1 values.now))) }
 {
     for (i, value) in values.iter().enumerate() {
         let fault = judged_fault(alloc, domains, rule, i + 1, value)?;
@@ -128,7 +132,7 @@ fn are_of(kind: ValueKind, values: &[Value]) -> bool
 fn unknown(alloc: Global, name: &[u8]) -> Found
     ensures { IfOk result (λ f. f ≡ Some (UnknownItem name.now)) }
 {
-    let name = copy_bytes(alloc, name)?;
+    let name = Bytes::copy_of(alloc, name)?;
     Ok(Some(ConfigFault::UnknownItem { name }))
 }
 
@@ -141,11 +145,11 @@ fn known_fault(alloc: Global, domains: i128, item: &Item, rule: &Rule) -> Found
         return unknown(alloc, item.1.as_slice());
     }
     if !are_of(rule.kind, values) {
-        let name = copy_bytes(alloc, item.1.as_slice())?;
+        let name = Bytes::copy_of(alloc, item.1.as_slice())?;
         return Ok(Some(ConfigFault::WrongType { name }));
     }
     if rule.most < values.len() as u64 {
-        let name = copy_bytes(alloc, item.1.as_slice())?;
+        let name = Bytes::copy_of(alloc, item.1.as_slice())?;
         return Ok(Some(ConfigFault::TooMany { name }));
     }
     range_fault(alloc, domains, rule, values)
@@ -153,7 +157,8 @@ fn known_fault(alloc: Global, domains: i128, item: &Item, rule: &Rule) -> Found
 
 /// What is wrong with an item that is held to this rule, or to none.
 fn rule_fault(alloc: Global, domains: i128, item: &Item, rule: Option<&Rule>) -> Found
-    ensures { IfOk result (λ f. f ≡ rule_fault domains item.now (option_map rule_of (option_copied rule.entry))) }
+    ensures { IfOk result
+        (λ f. f ≡ rule_fault domains item.now (option_map rule_of (option_copied rule.entry))) }
 {
     match rule {
         Some(rule) => {
@@ -173,7 +178,8 @@ fn item_fault(alloc: Global, rules: &[Rule], domains: i128, item: &Item) -> Foun
 
 /// The first fault of an item.
 pub(crate) fn items_fault(alloc: Global, rules: &[Rule], domains: i128, items: &[&Item]) -> Found
-    ensures { IfOk result (λ f. f ≡ first_fault (map (λ i. item_fault (map rule_of rules.now) domains i.now) items.now)) }
+    ensures { IfOk result (λ f.
+        f ≡ first_fault (map (λ i. item_fault (map rule_of rules.now) domains i.now) items.now)) }
 {
     for item in items {
         let fault = item_fault(alloc, rules, domains, item)?;
@@ -187,7 +193,8 @@ pub(crate) fn items_fault(alloc: Global, rules: &[Rule], domains: i128, items: &
 // ---- defaults
 
 fn fault_of_default(alloc: Global, rule: &Rule) -> Found
-    ensures { IfOk result (λ f. (d : ℕ) → f ≡ out_of_range (rule_of rule.now) ((rule_of rule.now).default d)) }
+    ensures { IfOk result (λ f. (d : ℕ)
+        → f ≡ out_of_range (rule_of rule.now) ((rule_of rule.now).default d)) }
 {
     match &rule.default {
         DefaultValue::FirstDomainOnly => Ok(None),
@@ -195,11 +202,12 @@ fn fault_of_default(alloc: Global, rule: &Rule) -> Found
     }
 }
 
-/// What is wrong with the value of a domain that is given none, where its name has these values. It is the same for
-/// each domain.
+/// What is wrong with the value of a domain that is given none, where its name has these values. It
+/// is the same for each domain.
 fn missing_fault(alloc: Global, table: &[Rule], rule: &Rule, given: &[Value]) -> Found
     requires { map rule_of table.now ≡ built_ins }
-    ensures { IfOk result (λ f. (d : ℕ) → f ≡ out_of_range (rule_of rule.now) (missing_value (rule_of rule.now) given.now d)) }
+    ensures { IfOk result (λ f. (d : ℕ)
+        → f ≡ out_of_range (rule_of rule.now) (missing_value (rule_of rule.now) given.now d)) }
 {
     match given {
         [first, ..] if rule.each && is_start_name(table, rule.name.as_slice()) => {
@@ -218,7 +226,8 @@ fn default_fault(
     rule: &Rule,
 ) -> Found
     requires { map rule_of table.now ≡ built_ins }
-    ensures { IfOk result (λ f. f ≡ default_fault domains (map (λ i. i.now) items.now) (rule_of rule.now)) }
+    ensures { IfOk result
+        (λ f. f ≡ default_fault domains (map (λ i. i.now) items.now) (rule_of rule.now)) }
 {
     let given = given(items, rule.group.as_slice(), rule.name.as_slice());
     if wanted(domains, rule) <= given.len() as u128 {
@@ -237,7 +246,8 @@ pub(crate) fn defaults_fault(
     rules: &[Rule],
 ) -> Found
     requires { map rule_of table.now ≡ built_ins }
-    ensures { IfOk result (λ f. f ≡ first_fault (map (λ r. default_fault domains (map (λ i. i.now) items.now) (rule_of r)) rules.now)) }
+    ensures { IfOk result (λ f. f ≡ first_fault
+        (map (λ r. default_fault domains (map (λ i. i.now) items.now) (rule_of r)) rules.now)) }
 {
     for rule in rules {
         let fault = default_fault(alloc, table, domains, items, rule)?;
@@ -258,7 +268,7 @@ fn float_fault(alloc: Global, entry: &Entry) -> Found
             if kind.as_slice() == b"integer".as_slice() {
                 return Ok(None);
             }
-            let field = copy_bytes(alloc, symbol.as_slice())?;
+            let field = Bytes::copy_of(alloc, symbol.as_slice())?;
             Ok(Some(ConfigFault::FloatState { field }))
         }
         _ => Ok(None),

@@ -1,10 +1,12 @@
 //! The items of groups of which some name is known, and the values that they give.
 
-ghost use Rattle.std.specs.Prelude.{◌≡◌, ◌∷◌, [], IfOk, codes, filter, int_le, map, pos, unsigned_abs, if◌then◌else◌};
+ghost use Rattle.std.specs.Prelude.{◌≡◌, ◌∷◌, [], IfOk, codes, filter, int_le, map, pos};
+ghost use Rattle.std.specs.Prelude.{unsigned_abs, if◌then◌else◌};
 ghost use Rattle.std.specs.List.{list_any};
 ghost use Rattle.wf_model.specs.BuiltIns.{in_domains};
 ghost use Rattle.wf_model.specs.ValueForms.{fits_bits};
-ghost use Rattle.wf_model.specs.Config.{default_max_dom, first_int, given, if_in_i32, max_dom, rule_named};
+ghost use Rattle.wf_model.specs.Config.{default_max_dom, first_int, given, if_in_i32, max_dom};
+ghost use Rattle.wf_model.specs.Config.{rule_named};
 ghost use Rattle.wf_config.specs.Rules.{default_in, has_group, knows_group, rule_of};
 
 use crate::rule::{DefaultValue, Rule, rule_named};
@@ -33,7 +35,8 @@ pub(crate) fn known_items<'a>(
     rules: &[Rule],
     items: &'a [Item],
 ) -> Result<Vec<&'a Item>, AllocError>
-    ensures { IfOk result (λ v. map (λ i. i.now) v.items ≡ filter (λ i. knows_group (map rule_of rules.now) i.0) items.now) }
+    ensures { IfOk result (λ v. map (λ i. i.now) v.items
+        ≡ filter (λ i. knows_group (map rule_of rules.now) i.0) items.now) }
 {
     items
         .iter()
@@ -81,7 +84,8 @@ fn int_default(default: &DefaultValue) -> Option<i128>
 }
 
 fn default_max_dom(rules: &[Rule]) -> Option<i128>
-    ensures { result ≡ first_int (default_max_dom (rule_named (map rule_of rules.now) (codes "max_dom"))) }
+    ensures { result
+        ≡ first_int (default_max_dom (rule_named (map rule_of rules.now) (codes "max_dom"))) }
 {
     match rule_named(rules, b"max_dom".as_slice()) {
         Some(rule) => int_default(&rule.default),
@@ -90,7 +94,8 @@ fn default_max_dom(rules: &[Rule]) -> Option<i128>
 }
 
 fn given_max_dom(items: &[&Item]) -> Option<i128>
-    ensures { result ≡ if_in_i32 (first_int (given (map (λ i. i.now) items.now) in_domains (codes "max_dom"))) }
+    ensures { result
+        ≡ if_in_i32 (first_int (given (map (λ i. i.now) items.now) in_domains (codes "max_dom"))) }
 {
     match first_int(given(items, b"domains".as_slice(), b"max_dom".as_slice())) {
         Some(number) if is_in_32(number) => Some(number),

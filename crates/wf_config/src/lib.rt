@@ -1,5 +1,5 @@
-//! What a Registry and a namelist say together: the values of each name and the active fields, and the names that a
-//! stencil table may use.
+//! What a Registry and a namelist say together: the values of each name and the active fields, and
+//! the names that a stencil table may use.
 #![tactic(auto)]
 
 mod active;

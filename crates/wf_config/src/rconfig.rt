@@ -6,10 +6,12 @@ ghost use Rattle.wf_model.specs.declared.registry.Entry.TheVariants.{Rconfig};
 ghost use Rattle.wf_model.specs.BuiltIns.{a_character, a_real, most_values};
 ghost use Rattle.wf_model.specs.Letters.{digits_value, is_digits};
 ghost use Rattle.wf_model.specs.ValueForms.{is_whole};
-ghost use Rattle.wf_model.specs.Config.{default_of, group_of, rconfig_rule, registry_rules, rule_named, type_of, with_default};
-ghost use Rattle.wf_config.specs.Rules.{default_in, others, rule_of, type_of_kind, whole_default, with_defaults};
+ghost use Rattle.wf_model.specs.Config.{default_of, group_of, rconfig_rule, registry_rules};
+ghost use Rattle.wf_model.specs.Config.{rule_named, type_of, with_default};
+ghost use Rattle.wf_config.specs.Rules.{default_in, others, rule_of, type_of_kind, whole_default};
+ghost use Rattle.wf_config.specs.Rules.{with_defaults};
 
-use crate::copies::{copy_bytes, copy_name, copy_value, push_some};
+use crate::copies::push_some;
 use crate::rule::{DefaultValue, Range, Rule, ValueKind, is_named, rule_named};
 use std::alloc::{AllocError, Global};
 use wf_model::{Bytes, Entry, Name, Registry, Value};
@@ -59,7 +61,7 @@ fn real_default(alloc: Global, word: &[u8]) -> Result<Value, AllocError>
     if is_dash(word) || is_whole(word) {
         whole_default(word)
     } else {
-        Ok(Value::Decimal(copy_bytes(alloc, word)?))
+        Ok(Value::Decimal(Bytes::copy_of(alloc, word)?))
     }
 }
 
@@ -67,11 +69,12 @@ fn text_default(alloc: Global, word: &[u8]) -> Result<Value, AllocError>
     ensures { IfOk result (λ v. v ≡ default_of a_character word.now) }
 {
     let text = if is_dash(word) { b"".as_slice() } else { word };
-    Ok(Value::Text(copy_bytes(alloc, text)?))
+    Ok(Value::Text(Bytes::copy_of(alloc, text)?))
 }
 
-/// The value of a default column: `-` is 0, false or the empty text. A whole number that 128 bits don't hold, and an
-/// integer's default that is none, count as want of memory; no Registry that was read has one.
+/// The value of a default column: `-` is 0, false or the empty text. A whole number that 128 bits
+/// don't hold, and an integer's default that is none, count as want of memory; no Registry that was
+/// read has one.
 fn default_of(alloc: Global, kind: ValueKind, word: &[u8]) -> Result<Value, AllocError>
     ensures { IfOk result (λ v. v ≡ default_of (type_of_kind kind) word.now) }
 {
@@ -98,7 +101,8 @@ fn group_of(alloc: Global, how: &[u8]) -> Result<Bytes, AllocError>
 
 /// How many values a number of entries allows; a name of it has one for each domain.
 fn most_of(entries: &[u8]) -> Result<u64, AllocError>
-    ensures { IfOk result (λ most. most ≡ (if is_digits entries.now then digits_value entries.now else most_values)) }
+    ensures { IfOk result
+        (λ most. most ≡ (if is_digits entries.now then digits_value entries.now else most_values)) }
 {
     if !is_digits(entries) {
         return Ok(21);
@@ -118,11 +122,12 @@ fn rule_of_columns(
     entries: &[u8],
     default: &[u8],
 ) -> Result<Rule, AllocError>
-    ensures { IfOk result (λ r. Some (rule_of r) ≡ rconfig_rule (Rconfig kind.now symbol.now how.now entries.now default.now)) }
+    ensures { IfOk result (λ r. Some (rule_of r)
+        ≡ rconfig_rule (Rconfig kind.now symbol.now how.now entries.now default.now)) }
 {
     let kind = kind_of(kind);
     Ok(Rule {
-        name: copy_name(alloc, symbol)?,
+        name: symbol.copy(alloc)?,
         group: group_of(alloc, how)?,
         kind,
         each: !is_digits(entries),
@@ -174,21 +179,22 @@ fn copy_default(alloc: Global, default: &DefaultValue) -> Result<DefaultValue, A
 {
     match default {
         DefaultValue::FirstDomainOnly => Ok(DefaultValue::FirstDomainOnly),
-        DefaultValue::Always(value) => Ok(DefaultValue::Always(copy_value(alloc, value)?)),
+        DefaultValue::Always(value) => Ok(DefaultValue::Always(value.copy(alloc)?)),
     }
 }
 
 /// A copy of the built-in rule, with the default that the Registry gives its name.
 fn with_default(alloc: Global, declared: Option<&Rule>, rule: &Rule) -> Result<Rule, AllocError>
-    ensures { IfOk result (λ r. rule_of r ≡ with_default (option_map rule_of (option_copied declared.entry)) (rule_of rule.now)) }
+    ensures { IfOk result (λ r. rule_of r
+        ≡ with_default (option_map rule_of (option_copied declared.entry)) (rule_of rule.now)) }
 {
     let default = match declared {
         Some(declared) => &declared.default,
         None => &rule.default,
     };
     Ok(Rule {
-        name: copy_name(alloc, &rule.name)?,
-        group: copy_bytes(alloc, rule.group.as_slice())?,
+        name: rule.name.copy(alloc)?,
+        group: Bytes::copy_of(alloc, rule.group.as_slice())?,
         kind: rule.kind,
         each: rule.each,
         most: rule.most,
@@ -203,7 +209,8 @@ fn with_defaults(
     built_ins: &[Rule],
     declared: &[Rule],
 ) -> Result<Vec<Rule>, AllocError>
-    ensures { IfOk result (λ v. map rule_of v.items ≡ with_defaults (map rule_of declared.now) (map rule_of built_ins.now)) }
+    ensures { IfOk result (λ v. map rule_of v.items
+        ≡ with_defaults (map rule_of declared.now) (map rule_of built_ins.now)) }
 {
     let mut rules = Vec::new(alloc);
     for rule in built_ins {
@@ -215,24 +222,29 @@ fn with_defaults(
 
 /// The rules of the declared names that aren't built in.
 fn others(built_ins: &[Rule], declared: Vec<Rule>) -> Vec<Rule>
-    ensures { map rule_of result.items ≡ others (map rule_of built_ins.now) (map rule_of declared.items) }
+    ensures { map rule_of result.items
+        ≡ others (map rule_of built_ins.now) (map rule_of declared.items) }
 {
     let mut others = declared;
     others.retain(
         |rule: &Rule| -> bool
-            ensures { result ≡ not (is_some (rule_named (map rule_of built_ins.entry.now) rule.now.name)) }
+            ensures { result
+                ≡ not (is_some (rule_named (map rule_of built_ins.entry.now) rule.now.name)) }
         { !is_named(built_ins, rule.name.as_slice()) },
     );
     others
 }
 
-/// What each name is held to: the built-in names, with the Registry's defaults, and then its other names.
+/// What each name is held to: the built-in names, with the Registry's defaults, and then its
+/// other names.
 pub(crate) fn rules_of(
     alloc: Global,
     built_ins: &[Rule],
     declared: Vec<Rule>,
 ) -> Result<Vec<Rule>, AllocError>
-    ensures { IfOk result (λ v. map rule_of v.items ≡ with_defaults (map rule_of declared.items) (map rule_of built_ins.now) ++ others (map rule_of built_ins.now) (map rule_of declared.items)) }
+    ensures { IfOk result (λ v.
+        map rule_of v.items ≡ with_defaults (map rule_of declared.items) (map rule_of built_ins.now)
+        ++ others (map rule_of built_ins.now) (map rule_of declared.items)) }
 {
     let mut rules = with_defaults(alloc, built_ins, declared.as_slice())?;
     let mut others = others(built_ins, declared);

@@ -91,7 +91,8 @@ fn find_rule<'a>(rules: &'a [Rule], name: &[u8]) -> Option<&'a Rule>
 
 /// The first rule of a name.
 pub(crate) fn rule_named<'a>(rules: &'a [Rule], name: &[u8]) -> Option<&'a Rule>
-    ensures { option_map rule_of (option_copied result) ≡ rule_named (map rule_of rules.now) name.now }
+    ensures { option_map rule_of (option_copied result)
+        ≡ rule_named (map rule_of rules.now) name.now }
 {
     find_rule(rules, name)
 }

@@ -1,14 +1,18 @@
-//! The names that a stencil table may use: of the active fields, of halos and periods, and of stored functions.
+//! The names that a stencil table may use: of the active fields, of halos and periods, and of
+//! stored functions.
 
-ghost use Rattle.std.specs.Prelude.{◌≡◌, ◌≤◌, ◌+◌, ◌++◌, IfOk, OnOk, codes, filter_map, flat_map, length, map, position};
+ghost use Rattle.std.specs.Prelude.{◌≡◌, ◌≤◌, ◌+◌, ◌++◌, IfOk, OnOk, codes, filter_map, flat_map};
+ghost use Rattle.std.specs.Prelude.{length, map, position};
 ghost use Rattle.std.specs.Option.{option_map};
 ghost use Rattle.wf_model.specs.Letters.{digits_value, lower};
 ghost use Rattle.wf_model.specs.Entries.{entry_levels, is_two, level_names};
 ghost use Rattle.wf_model.specs.Groups.{names_in, radius_of};
-ghost use Rattle.wf_model.specs.NamesOf.{fields_from, group_parts, halo_of, halo_part, level_number, levels_in, names_of, parts_in, period_of, period_part};
+ghost use Rattle.wf_model.specs.NamesOf.{fields_from, group_parts, halo_of, halo_part};
+ghost use Rattle.wf_model.specs.NamesOf.{level_number, levels_in, names_of, parts_in, period_of};
+ghost use Rattle.wf_model.specs.NamesOf.{period_part};
 ghost use Rattle.wf_config.specs.NameParts.{field_of, level_numbers};
 
-use crate::copies::{copy_name, push_some};
+use crate::copies::push_some;
 use crate::parts::{head_of, names_in};
 use crate::words::parts;
 use std::alloc::{AllocError, Global};
@@ -54,13 +58,14 @@ fn add_levels(
     count: &[u8],
     z: bool,
 ) -> Result<(), AllocError>
-    ensures { OnOk result (levels.new.items ≡ levels.old.items ++ map (λ name. (name, z)) (level_names symbol.now count.now)) }
+    ensures { OnOk result (levels.new.items
+        ≡ levels.old.items ++ map (λ name. (name, z)) (level_names symbol.now count.now)) }
 {
     if is_two(count) {
         levels.push((with_ending(alloc, symbol, b"_1".as_slice())?, z))?;
         levels.push((with_ending(alloc, symbol, b"_2".as_slice())?, z))?;
     } else {
-        levels.push((copy_name(alloc, symbol)?, z))?;
+        levels.push((symbol.copy(alloc)?, z))?;
     }
     Ok(())
 }
@@ -117,7 +122,7 @@ fn add_field(
     ensures { OnOk result (fields.new.items ≡ fields.old.items ++ field_of first entry.now) }
 {
     if let Entry::State { symbol, .. } = entry {
-        fields.push((copy_name(alloc, symbol)?, first, end.saturating_sub(1)))?;
+        fields.push((symbol.copy(alloc)?, first, end.saturating_sub(1)))?;
     }
     Ok(())
 }
@@ -205,7 +210,8 @@ fn add_halo_group(
     levels: &[Level],
     group: &[u8],
 ) -> Result<(), AllocError>
-    ensures { OnOk result (made.new.items ≡ made.old.items ++ group_parts halo_part levels.now group.now) }
+    ensures { OnOk result
+        (made.new.items ≡ made.old.items ++ group_parts halo_part levels.now group.now) }
 {
     let points = number_of(head_of(group))?;
     let cross = points == 4;
@@ -245,7 +251,7 @@ fn halo_of(
     match entry {
         Entry::Halo { name, groups } => {
             let made = halo_parts(alloc, levels, groups.as_slice())?;
-            Ok(Some((copy_name(alloc, name)?, List::from_vec(made))))
+            Ok(Some((name.copy(alloc)?, List::from_vec(made))))
         }
         _ => Ok(None),
     }
@@ -274,7 +280,8 @@ fn add_period_group(
     levels: &[Level],
     group: &[u8],
 ) -> Result<(), AllocError>
-    ensures { OnOk result (made.new.items ≡ made.old.items ++ group_parts period_part levels.now group.now) }
+    ensures { OnOk result
+        (made.new.items ≡ made.old.items ++ group_parts period_part levels.now group.now) }
 {
     let width = number_of(head_of(group))?;
     let numbers = level_numbers(alloc, levels, group)?;
@@ -312,7 +319,7 @@ fn period_of(
     match entry {
         Entry::Period { name, groups } => {
             let made = period_parts(alloc, levels, groups.as_slice())?;
-            Ok(Some((copy_name(alloc, name)?, List::from_vec(made))))
+            Ok(Some((name.copy(alloc)?, List::from_vec(made))))
         }
         _ => Ok(None),
     }
@@ -334,34 +341,13 @@ fn periods_of(
 
 // ---- all names
 
-fn copy_hook(alloc: Global, hook: &HookName) -> Result<HookName, AllocError>
-    ensures { IfOk result (λ h. h ≡ hook.now) }
-{
-    Ok(HookName {
-        name: copy_name(alloc, &hook.name)?,
-        id: hook.id,
-        kind: hook.kind,
-        arity: hook.arity,
-    })
-}
-
-fn copy_hooks(alloc: Global, hooks: &[HookName]) -> Result<Vec<HookName>, AllocError>
-    ensures { IfOk result (λ v. v.items ≡ hooks.now) }
-{
-    let mut copies = Vec::with_capacity(alloc, hooks.len())?;
-    for hook in hooks {
-        copies.push(copy_hook(alloc, hook)?)?;
-    }
-    Ok(copies)
-}
-
-/// The names that a table may use: the levels and symbols of the config's fields, its halos and periods with their
-/// parts, and these stored functions.
+/// The names that a table may use: the levels and symbols of the config's fields, its halos and
+/// periods with their parts, and these stored functions.
 ///
-/// Levels are numbered from 0 in the order of the fields. A part of a halo or a period is a level that its groups name,
-/// in whatever case; names that are no active level are left out. The error is want of memory; it also comes where a
-/// head of a group is no number of 32 bits, or a level's name is longer than a name may be, which no config of a
-/// Registry that was read has.
+/// Levels are numbered from 0 in the order of the fields. A part of a halo or a period is a level
+/// that its groups name, in whatever case; names that are no active level are left out. The error
+/// is want of memory; it also comes where a head of a group is no number of 32 bits, or a level's
+/// name is longer than a name may be, which no config of a Registry that was read has.
 #[tactic(auto, unfolding(wf_model::specs::NamesOf::names_of))]
 pub fn names(alloc: Global, config: &Config, hooks: &[HookName]) -> Result<Names, AllocError>
     ensures { IfOk result (λ n. n ≡ names_of config.now hooks.now) }
@@ -375,6 +361,6 @@ pub fn names(alloc: Global, config: &Config, hooks: &[HookName]) -> Result<Names
         fields: List::from_vec(fields_of(alloc, fields)?),
         halos: List::from_vec(halos),
         periods: List::from_vec(periods),
-        hooks: List::from_vec(copy_hooks(alloc, hooks)?),
+        hooks: List::from_vec(HookName::copy_all(alloc, hooks)?),
     })
 }

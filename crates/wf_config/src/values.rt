@@ -5,7 +5,7 @@ ghost use Rattle.wf_model.specs.BuiltIns.{built_ins};
 ghost use Rattle.wf_model.specs.Config.{filled, is_start_name, missing_value, missing_values};
 ghost use Rattle.wf_config.specs.Rules.{default_in, rule_of, wanted};
 
-use crate::copies::{copy_name, copy_value, copy_values};
+use crate::copies::copy_values;
 use crate::given::{Item, given};
 use crate::rule::{DefaultValue, Rule, is_named};
 use std::alloc::{AllocError, Global};
@@ -34,7 +34,7 @@ fn default_at(alloc: Global, default: &DefaultValue, domain: u128) -> Result<Val
 {
     match default {
         DefaultValue::FirstDomainOnly => Ok(Value::Logical(domain == 1)),
-        DefaultValue::Always(value) => copy_value(alloc, value),
+        DefaultValue::Always(value) => value.copy(alloc),
     }
 }
 
@@ -51,7 +51,7 @@ fn missing_value(
 {
     match given {
         [first, ..] if rule.each && is_start_name(table, rule.name.as_slice()) => {
-            copy_value(alloc, first)
+            first.copy(alloc)
         }
         _ => default_at(alloc, &rule.default, domain),
     }
@@ -66,7 +66,8 @@ fn filled_values(
     given: &[Value],
 ) -> Result<Vec<Value>, AllocError>
     requires { map rule_of table.now ≡ built_ins }
-    ensures { IfOk result (λ v. v.items ≡ given.now ++ missing_values domains (rule_of rule.now) given.now) }
+    ensures { IfOk result
+        (λ v. v.items ≡ given.now ++ missing_values domains (rule_of rule.now) given.now) }
 {
     let missing = wanted(domains, rule).saturating_sub(given.len() as u128);
     let Ok(missing) = u64::try_from(missing) else {
@@ -88,11 +89,12 @@ fn filled(
     rule: &Rule,
 ) -> Result<NameValues, AllocError>
     requires { map rule_of table.now ≡ built_ins }
-    ensures { IfOk result (λ v. v ≡ filled domains (map (λ i. i.now) items.now) (rule_of rule.now)) }
+    ensures { IfOk result
+        (λ v. v ≡ filled domains (map (λ i. i.now) items.now) (rule_of rule.now)) }
 {
     let given = given(items, rule.group.as_slice(), rule.name.as_slice());
     let values = filled_values(alloc, table, domains, rule, given)?;
-    Ok((copy_name(alloc, &rule.name)?, List::from_vec(values)))
+    Ok((rule.name.copy(alloc)?, List::from_vec(values)))
 }
 
 /// The values of each name, where there are so many domains.
@@ -104,7 +106,8 @@ pub(crate) fn values(
     rules: &[Rule],
 ) -> Result<Vec<NameValues>, AllocError>
     requires { map rule_of table.now ≡ built_ins }
-    ensures { IfOk result (λ v. v.items ≡ map (λ r. filled domains (map (λ i. i.now) items.now) (rule_of r)) rules.now) }
+    ensures { IfOk result (λ v.
+        v.items ≡ map (λ r. filled domains (map (λ i. i.now) items.now) (rule_of r)) rules.now) }
 {
     let mut values = Vec::new(alloc);
     for rule in rules {

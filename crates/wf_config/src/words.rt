@@ -16,7 +16,8 @@ pub(crate) fn words(alloc: Global, text: &[u8]) -> Result<Vec<&[u8]>, AllocError
 
 /// The parts of a text between the bytes that are this one.
 pub(crate) fn parts(alloc: Global, text: &[u8], separator: u8) -> Result<Vec<&[u8]>, AllocError>
-    ensures { IfOk result (λ v. map (λ w. w.now) v.items ≡ slice_split (λ b. b == separator) text.now) }
+    ensures { IfOk result
+        (λ v. map (λ w. w.now) v.items ≡ slice_split (λ b. b == separator) text.now) }
 {
     text.split(|b| *b == separator).collect(alloc)
 }

@@ -15,5 +15,6 @@ pub record HasGoodLayout (plan : Plan) (layout : Layout) : Type 0 where
 -- of a config whose values are in range, a plan with a domain, and 1 to 64 workers
 abbrev pub LayoutsAreRanged : Type 0
 LayoutsAreRanged =
-    (config : Config) (plan : Plan) (workers : ℕ) (layout : Layout) → HasRangedValues config → 1 ≤ length plan.domains → Within 1 64 workers
+    (config : Config) (plan : Plan) (workers : ℕ) (layout : Layout) → HasRangedValues config
+    → 1 ≤ length plan.domains → Within 1 64 workers
     → layout_of config plan workers ≡ Ok layout → HasGoodLayout plan layout

@@ -61,8 +61,10 @@ pub record HasOwnValues (config : Config) : Type 0 where
   pub io_form_input : HasNumber config 1 2 2 (codes "io_form_input")
   pub io_form_boundary : HasNumber config 1 2 2 (codes "io_form_boundary")
   -- -1 leaves the number open
-  pub nproc_x : (integer config (codes "nproc_x") 1 ≡ negsuc 0) ⊎ HasNumber config 1 1 2000 (codes "nproc_x")
-  pub nproc_y : (integer config (codes "nproc_y") 1 ≡ negsuc 0) ⊎ HasNumber config 1 1 2000 (codes "nproc_y")
+  pub nproc_x : (integer config (codes "nproc_x") 1 ≡ negsuc 0)
+      ⊎ HasNumber config 1 1 2000 (codes "nproc_x")
+  pub nproc_y : (integer config (codes "nproc_y") 1 ≡ negsuc 0)
+      ⊎ HasNumber config 1 1 2000 (codes "nproc_y")
 
 -- all values of a config
 pub record HasRangedValues (config : Config) : Type 0 where
@@ -70,4 +72,5 @@ pub record HasRangedValues (config : Config) : Type 0 where
   pub domains : (d : ℕ) → 1 ≤ d → d ≤ domain_total config → HasDomainValues config d
 
 abbrev pub BoundValuesAreInRange : Type 0
-BoundValuesAreInRange = (registry : Registry) (namelist : Namelist) (config : Config) → config_of registry namelist ≡ Ok config → HasRangedValues config
+BoundValuesAreInRange = (registry : Registry) (namelist : Namelist) (config : Config) →
+    config_of registry namelist ≡ Ok config → HasRangedValues config

@@ -32,10 +32,13 @@ pub record HasSoundDomains (plan : Plan) : Type 0 where
 abbrev pub DomainsAreRanged : Type 0
 DomainsAreRanged =
     (config : Config) (hooks : List HookName) (items : List Item) → HasRangedValues config
-    → first_fault (domain_faults config (plan_from config hooks items)) ≡ None → HasSoundDomains (plan_from config hooks items)
+    → first_fault (domain_faults config (plan_from config hooks items)) ≡ None
+    → HasSoundDomains (plan_from config hooks items)
 
 -- so for each config that a Registry and a namelist give
 abbrev pub BoundDomainsAreRanged : Type 0
 BoundDomainsAreRanged =
-    (registry : Registry) (namelist : Namelist) (config : Config) (hooks : List HookName) (items : List Item) → config_of registry namelist ≡ Ok config
-    → first_fault (domain_faults config (plan_from config hooks items)) ≡ None → HasSoundDomains (plan_from config hooks items)
+    (registry : Registry) (namelist : Namelist) (config : Config) (hooks : List HookName)
+    (items : List Item) → config_of registry namelist ≡ Ok config
+    → first_fault (domain_faults config (plan_from config hooks items)) ≡ None
+    → HasSoundDomains (plan_from config hooks items)

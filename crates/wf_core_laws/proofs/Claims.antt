@@ -20,7 +20,8 @@ use Rattle.wf_core_laws.proofs.Options.{some_and_none}
 use Rattle.wf_core_laws.proofs.Members.{or_parts, not_both, all-at, any-found}
 use Rattle.wf_core_laws.proofs.Sane.{Sane}
 use Rattle.wf_core_laws.proofs.Kept.{DueHere, due_here_of, kept}
-use Rattle.wf_core_laws.proofs.Persists.{Other, step_persists, take_persists, stop_persists}
+use Rattle.wf_core_laws.specs.Patches.{IsOfOthers}
+use Rattle.wf_core_laws.proofs.Persists.{step_persists, take_persists, stop_persists}
 use Rattle.wf_core_laws.proofs.PersistsQuilt.{GathersOther, WritesNone, gather_persists, write_persists}
 
 -- a test does not hold together with its denial
@@ -92,7 +93,7 @@ module _ (r : RunData) (layout : Layout) where
 
   -- two different events that are enabled do not meet
   other : (s : CoreState) (d p : ℕ) (test : Test) (e : ℕ → ℕ → Event) (x : Event) → is_enabled r layout s x ≡ true → patch_may r layout test s d p ≡ true → (x ≡ e d p → ⊥)
-      → ((c q : ℕ) → Step c q ≡ e c q) ⊎ Exclude (may_step r layout) test → ((c q : ℕ) → Take c q ≡ e c q) ⊎ Exclude (may_take r layout) test → ((c q : ℕ) → Stop c q ≡ e c q) ⊎ Exclude (may_stop r layout) test → Other d p x
+      → ((c q : ℕ) → Step c q ≡ e c q) ⊎ Exclude (may_step r layout) test → ((c q : ℕ) → Take c q ≡ e c q) ⊎ Exclude (may_take r layout) test → ((c q : ℕ) → Stop c q ≡ e c q) ⊎ Exclude (may_stop r layout) test → IsOfOthers d p x
   unfolding is_enabled
   other s d p test e (Step c q) on on2 differ step take stop = λ same_d same_p. elim step [
     | inl w ↦ differ (w c q ∙ ap (λ (y : ℕ). e y q) same_d ∙ ap (e d) same_p)

@@ -12,7 +12,7 @@ abbrev pub one_if : Bool → ℕ
 one_if b = cond b 1 0
 
 -- one element more
-count-cons : {A : Type 0} (test : A → Bool) (x : A) (xs : List A) → count_by test (x ∷ xs) ≡ one_if (test x) + count_by test xs
+pub count-cons : {A : Type 0} (test : A → Bool) (x : A) (xs : List A) → count_by test (x ∷ xs) ≡ one_if (test x) + count_by test xs
 count-cons test x xs = sum_by-cons (λ x. one_if (test x)) x xs
 
 -- a list after another

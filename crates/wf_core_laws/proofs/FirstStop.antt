@@ -11,7 +11,8 @@ use Rattle.wf_model.specs.Patches.{split_of, patches_of}
 use Rattle.wf_model.specs.Front.{front}
 use Rattle.wf_model.specs.Agreement.{IsAccepted}
 use Rattle.wf_laws.specs.Outcomes.{IsOverflowOfItsItem}
-use Rattle.wf_laws.specs.Stops.{domain_at, change_at, named_at, is_named, least_named}
+use Rattle.wf_model.specs.LeastStop.{domain_at, is_named}
+use Rattle.wf_laws.specs.Stops.{change_at, named_at, least_named}
 use Rattle.wf_laws.proofs.Members.{find-Some}
 use Rattle.wf_laws.proofs.FirstOverflow.{first_is, ends_with, earlier}
 use Rattle.wf_laws.proofs.StopLaws.{outcome_least}

@@ -21,7 +21,8 @@ use Rattle.wf_model.specs.Halves.{Half, acts, sends, takes, posts, item_halves, 
 use Rattle.wf_model.specs.Core.{memory_point}
 use Rattle.wf_model.specs.Front.{Stand, Stands, stand_after, unless_stopped, last_half, mail_to, lacks_mail, half_sets, half_stops, half_effect, front}
 use Rattle.wf_model.specs.Agreement.{IsAccepted, IsUpToOverflow, IsPatch, memory_at}
-use Rattle.wf_laws.specs.Stops.{mail_from, named_at, domain_at}
+use Rattle.wf_model.specs.LeastStop.{domain_at}
+use Rattle.wf_laws.specs.Stops.{mail_from, named_at}
 use Rattle.wf_laws.proofs.Bools.{and_left}
 use Rattle.wf_laws.proofs.GoOn.{nothing_goes, fetch_goes}
 use Rattle.wf_laws.proofs.PatchLaws.{no_stop}

@@ -13,10 +13,10 @@ use Rattle.wf_model.specs.Grids.{Grids}
 use Rattle.wf_model.specs.Changes.{Spot, spots, nothing, overflows_at, overflow_in, table_change}
 use Rattle.wf_model.specs.Outcome.{RunData, entry_at, grids_at, act_change, change_of}
 use Rattle.wf_model.specs.Exchange.{receiver_of}
-use Rattle.wf_laws.specs.Stops.{domain_at, change_at}
+use Rattle.wf_model.specs.LeastStop.{domain_at, first_some}
+use Rattle.wf_laws.specs.Stops.{change_at}
 use Rattle.wf_laws.proofs.Bools.{or_right}
 use Rattle.wf_laws.proofs.Members.{find-None}
-use Rattle.wf_core_laws.specs.LeastStop.{first_some}
 use Rattle.wf_core_laws.proofs.Places.{lt_or_le}
 use Rattle.wf_core_laws.proofs.Members.{Has, has-here}
 

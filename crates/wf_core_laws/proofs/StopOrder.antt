@@ -19,7 +19,8 @@ use Rattle.wf_model.specs.Replay.{IsFull}
 use Rattle.wf_model.specs.Front.{Stand, front, last_half, halves_before, mail_to}
 use Rattle.wf_model.specs.Agreement.{IsAccepted, IsPatch}
 use Rattle.wf_laws.specs.Outcomes.{IsOverflowOfItsItem}
-use Rattle.wf_laws.specs.Stops.{domain_at, change_at, named_at, is_named, least_named}
+use Rattle.wf_model.specs.LeastStop.{domain_at, is_named, front_names, first_overflow, half_names, due_names, stop_names, least_stop_at, stop_at, least_stop}
+use Rattle.wf_laws.specs.Stops.{change_at, named_at, least_named}
 use Rattle.wf_laws.proofs.Bools.{split_bool}
 use Rattle.wf_laws.proofs.Members.{find-None}
 use Rattle.wf_laws.proofs.FirstOverflow.{first_is, earlier}
@@ -27,7 +28,6 @@ use Rattle.wf_laws.proofs.StopLaws.{outcome_least, least_overflow}
 use Rattle.wf_core_laws.specs.Patches.{IsDomainPatch}
 use Rattle.wf_core_laws.specs.Ends.{IsFinished}
 use Rattle.wf_core_laws.specs.Stops.{IsFirstStop, IsStoppedAt}
-use Rattle.wf_core_laws.specs.LeastStop.{front_names, first_overflow, half_names, due_names, stop_names, least_stop_at, stop_at, least_stop}
 use Rattle.wf_core_laws.specs.EveryList.{NoPatchStopsWhereNothingOverflows, FullListsStopAtTheOverflow, NoPatchStopsBeforeTheOverflow, LeastStopIsTheFirstOverflow}
 use Rattle.wf_core_laws.proofs.Options.{mapped_some}
 use Rattle.wf_core_laws.proofs.Members.{Has, not_both, any-none}

@@ -20,9 +20,9 @@ use Rattle.wf_model.specs.Halves.{Half, acts, sends, takes, posts, Due, act_halv
 use Rattle.wf_model.specs.Core.{CoreState, PatchAt, due_of, has_mail, is_lost, letter_of, setting_at, after_stop, begin_state}
 use Rattle.wf_model.specs.Replay.{goes, may_step, may_take, may_stop, patch_may, go, is_enabled, state_after_event, replay}
 use Rattle.wf_model.specs.Front.{front, half_stops, lacks_mail, halves_before}
-use Rattle.wf_laws.specs.Stops.{domain_at}
+use Rattle.wf_model.specs.LeastStop.{domain_at, half_names, due_names, front_names}
 use Rattle.wf_laws.proofs.Bools.{split_bool, and_left}
-use Rattle.wf_core_laws.specs.LeastStop.{half_names, due_names, front_names, StoppedPatchesNameTheFrontsPoints, StoppedPatchesComputeOrReceive}
+use Rattle.wf_core_laws.specs.Stops.{StoppedPatchesNameTheFrontsPoints, StoppedPatchesComputeOrReceive}
 use Rattle.wf_core_laws.proofs.Options.{none_some}
 use Rattle.wf_core_laws.proofs.Members.{Has, Found, or_parts, not_both, all-at, any-found}
 use Rattle.wf_core_laws.proofs.Places.{lt_or_le, due_here}
@@ -34,7 +34,8 @@ use Rattle.wf_core_laws.proofs.Replays.{reached}
 use Rattle.wf_core_laws.proofs.Kept.{DueHere, due_here_of, kept, sane_begin, sane, takes_set, memory_here}
 use Rattle.wf_core_laws.proofs.PatchForms.{there_of}
 use Rattle.wf_core_laws.proofs.Turns.{one-patch, may_live}
-use Rattle.wf_core_laws.proofs.Persists.{Other, Follows, follows, still_sent}
+use Rattle.wf_core_laws.specs.Patches.{IsOfOthers}
+use Rattle.wf_core_laws.proofs.Persists.{Follows, follows, still_sent}
 use Rattle.std.proofs.lemmas.Bool.Decides.{eqb_tells}
 
 -- an acting half is of an item of the table, of its own domain
@@ -79,7 +80,7 @@ module _ (r : RunData) (layout : Layout) where
       not_both _ st (subst (λ (y : ℕ). (s.patches d y).is_stopped ≡ false) same_p (subst (λ (y : ℕ). (s.patches y b).is_stopped ≡ false) same_d (may_live r layout test s a b on)))
 
   -- so each event that is enabled is of no concern to it
-  others : (s : CoreState) (x : Event) (d p : ℕ) → is_enabled r layout s x ≡ true → (s.patches d p).is_stopped ≡ true → Other d p x
+  others : (s : CoreState) (x : Event) (d p : ℕ) → is_enabled r layout s x ≡ true → (s.patches d p).is_stopped ≡ true → IsOfOthers d p x
   unfolding is_enabled
   others s (Step a b) d p on st = no_own s (may_step r layout) a b d p on st
   others s (Take a b) d p on st = no_own s (may_take r layout) a b d p on st

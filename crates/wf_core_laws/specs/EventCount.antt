@@ -17,5 +17,6 @@ events_of_half (posts levels) = 1 + length levels
 -- of each patch its halves and the gathering of its pieces, and of each frame its writing
 unfoldable pub most_events : RunData → Layout → ℕ
 most_events r layout =
-    sum_by (λ d. sum_by (λ p. sum_by (λ (x : Due). events_of_half x.half) (halves_of r d)) (patches_of (split_of layout))) (domains_of r.plan)
+    sum_by (λ d. sum_by (λ p. sum_by (λ (x : Due). events_of_half x.half) (halves_of r d))
+    (patches_of (split_of layout))) (domains_of r.plan)
     + length (frames_of r)

@@ -3,7 +3,6 @@ pub mod Front
 pub mod Carried
 pub mod Ends
 pub mod Stops
-pub mod LeastStop
 pub mod EventCount
 pub mod PieceCount
 pub mod EveryList

@@ -1,12 +1,16 @@
 //! What holds of every full list, which is one that leads to a state where no event is enabled.
-ghost use Rattle.wf_core_laws.specs.EveryList.{NoStateIsStuck, FullListsEndAlike, FullListsEndWithTheReport, FullListsWriteTheRunsFrames};
+ghost use Rattle.wf_core_laws.specs.EveryList.{NoStateIsStuck, FullListsEndAlike};
+ghost use Rattle.wf_core_laws.specs.EveryList.{FullListsEndWithTheReport};
+ghost use Rattle.wf_core_laws.specs.EveryList.{FullListsWriteTheRunsFrames};
 
-/// Where no event is enabled each patch has ended or is stopped, each piece is gathered, and each frame before all stops is written.
+/// Where no event is enabled each patch has ended or is stopped, each piece is gathered, and each
+/// frame before all stops is written.
 pub fn no_state_is_stuck()
     ensures { NoStateIsStuck }
 {}
 
-/// Two full lists end with equal patches, as many frames written, and the same letters and pieces by look-up.
+/// Two full lists end with equal patches, as many frames written, and the same letters and pieces
+/// by look-up.
 pub fn full_lists_end_alike()
     ensures { FullListsEndAlike }
 {}

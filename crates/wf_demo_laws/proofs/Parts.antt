@@ -10,13 +10,6 @@ pub flat_map-same : {X A : Type 0} (f g : X → List A) (xs : List X) → ((x : 
 flat_map-same f g [] h = refl
 flat_map-same f g (x ∷ xs) h = λ n. h x n ++ flat_map-same f g xs h n
 
-pub flat_map-range_same : {A : Type 0} (f g : ℕ → List A) (a n : ℕ) → ((k : ℕ) → a ≤ k → k < a + n → f k ≡ g k) → flat_map f (range_with_len a n) ≡ flat_map g (range_with_len a n)
-flat_map-range_same f g a zero h = refl
-flat_map-range_same f g a (suc n) h =
-    let first : f a ≡ g a = h a (omega arith) (omega arith) in
-    let rest = flat_map-range_same f g (a + 1) n (λ k l u. h k (omega arith) (omega arith)) in
-    λ m. first m ++ rest m
-
 pub map-range_same : {A : Type 0} (f g : ℕ → A) (a n : ℕ) → ((k : ℕ) → a ≤ k → k < a + n → f k ≡ g k) → map f (range_with_len a n) ≡ map g (range_with_len a n)
 map-range_same f g a zero h = refl
 map-range_same f g a (suc n) h =

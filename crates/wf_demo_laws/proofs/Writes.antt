@@ -7,8 +7,7 @@ use Rattle.wf_model.specs.declared.demo.Demo.{Demo}
 use Rattle.wf_model.specs.declared.frame.Frame.{Frame}
 use Rattle.wf_model.specs.declared.script.Entry.{Entry}
 use Rattle.wf_model.specs.Value.{Answers}
-use Rattle.wf_model.specs.Plans.{domain_of, field_of, begin_of, up_to}
-use Rattle.wf_model.specs.Grids.{Grid, listed}
+use Rattle.wf_model.specs.Plans.{domain_of, field_of, begin_of}
 use Rattle.wf_model.specs.Calendar.{time_text}
 use Rattle.wf_model.specs.Streams.{file_list, stream_levels}
 use Rattle.wf_model.specs.Bytes.{four_bytes, slab_bytes, header_bytes}
@@ -19,20 +18,11 @@ use Rattle.wf_model.specs.Frames.{slab_of, frames_written}
 use Rattle.wf_model.specs.Writes.{header_of, record_of, frame_calls, writes_of, summary_of}
 use Rattle.wf_model.specs.DemoCase.{case_start, demo_plan}
 use Rattle.wf_model.specs.Demo.{demo_value, demo_grid, demo_file, demo_header, demo_time, demo_frame, demo_frames, demo_calls, frame_sum, demo_summary}
-use Rattle.wf_laws.proofs.Listing.{length-listed}
+use Rattle.wf_laws.proofs.Listing.{length-listed, listed-same}
 use Rattle.wf_demo_laws.specs.DemoLaws.{demo_run}
-use Rattle.wf_demo_laws.proofs.Parts.{map-range_same, flat_map-range_same, flat_map-map_range, sum-map_range, sum-constant, filter-map_range_none}
+use Rattle.wf_demo_laws.proofs.Parts.{flat_map-map_range, sum-map_range, sum-constant, filter-map_range_none}
 use Rattle.wf_demo_laws.proofs.Grids.{frame_item, grid_at_frame}
 use Rattle.wf_demo_laws.proofs.Frames.{frame_after, frames_of_demo}
-
--- grids with the same numbers have the same list
-pub listed-same : (zs ys xs : ℕ) (g h : Grid) → ((k j i : ℕ) → 1 ≤ k → k ≤ zs → 1 ≤ j → j ≤ ys → 1 ≤ i → i ≤ xs → g k j i ≡ h k j i) → listed zs ys xs g ≡ listed zs ys xs h
-unfolding listed
-listed-same zs ys xs g h same =
-    flat_map-range_same (λ k. flat_map (λ j. map (λ i. g k j i) (up_to xs)) (up_to ys)) (λ k. flat_map (λ j. map (λ i. h k j i) (up_to xs)) (up_to ys)) 1 zs
-    (λ k a b. flat_map-range_same (λ j. map (λ i. g k j i) (up_to xs)) (λ j. map (λ i. h k j i) (up_to xs)) 1 ys
-    (λ j c d. map-range_same (λ i. g k j i) (λ i. h k j i) 1 xs
-    (λ i e f. same k j i a (omega arith) c (omega arith) e (omega arith))))
 
 -- a number takes four bytes
 length-slab_bytes : (values : List ℤ) → length (slab_bytes values) ≡ 4 * length values

@@ -1,5 +1,6 @@
 -- What the evaluation of an expression needs, and what it answers.
-use Rattle.std.specs.Prelude.{◌≡◌, ℕ, ◌≤◌, List, All, ℤ, length, Option, Some, None, Result, Ok, Err}
+use Rattle.std.specs.Prelude.{◌≡◌, ℕ, ◌≤◌, List, All, ℤ, length, Option, Some, None, Result, Ok}
+use Rattle.std.specs.Prelude.{Err}
 use Rattle.wf_model.specs.declared.expr.Args.{Args}
 use Rattle.wf_model.specs.declared.expr.Expr.{Expr}
 use Rattle.wf_model.specs.Reads.{Read, reads_of}
@@ -13,8 +14,10 @@ pub record IsAccepted (accepts : ℕ → List ℤ → Type 0) (c : CallOf) : Typ
   pub few : c.arguments ≤ 8
   pub each : (zs : List ℤ) → length zs ≡ c.arguments → AreI64 zs → accepts c.id zs
 
--- what an expression needs to be evaluated, where the stored functions accept these lists and these reads have numbers
-pub record IsEvaluable (accepts : ℕ → List ℤ → Type 0) (CanRead : Read → Type 0) (x : Expr) : Type 0 where
+-- what an expression needs to be evaluated, where the stored functions accept these lists and these
+-- reads have numbers
+pub record IsEvaluable (accepts : ℕ → List ℤ → Type 0) (CanRead : Read →
+    Type 0) (x : Expr) : Type 0 where
   -- no divisor is 0
   pub divisors : All (λ n. 1 ≤ n) (parts_of x).divisors
   -- each read has a number, also in a branch that is not chosen
@@ -23,7 +26,8 @@ pub record IsEvaluable (accepts : ℕ → List ℤ → Type 0) (CanRead : Read �
   pub calls : All (IsAccepted accepts) (parts_of x).calls
 
 -- the same of arguments
-pub record AreEvaluable (accepts : ℕ → List ℤ → Type 0) (CanRead : Read → Type 0) (xs : Args) : Type 0 where
+pub record AreEvaluable (accepts : ℕ → List ℤ → Type 0) (CanRead : Read →
+    Type 0) (xs : Args) : Type 0 where
   pub divisors : All (λ n. 1 ≤ n) (parts_in xs).parts.divisors
   pub reads : All CanRead (reads_in xs)
   pub calls : All (IsAccepted accepts) (parts_in xs).parts.calls

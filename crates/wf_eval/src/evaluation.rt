@@ -18,9 +18,10 @@ use wf_model::{Args, Expr};
 
 /// The value of an expression at the reader's point, within 32 bits.
 ///
-/// It overflows exactly where a part that is evaluated leaves 64 bits or the value leaves 32. Of an `if` both sides of
-/// the test are evaluated, and of its branches the chosen one alone. `div` rounds to the next whole number below, and
-/// `mod` is what that leaves. A stored function answers its meaning at the numbers
+/// It overflows exactly where a part that is evaluated leaves 64 bits or the value leaves 32. Of an
+/// `if` both sides of the test are evaluated, and of its branches the chosen one alone. `div`
+/// rounds to the next whole number below, and `mod` is what that leaves. A stored function answers
+/// its meaning at the numbers
 /// of its arguments, which are evaluated from left to right. It takes no memory.
 pub fn eval<R: Reader, M: Meanings, F: Answering<M>>(
     expression: &Expr,
@@ -43,7 +44,8 @@ fn written(number: Option<i64>) -> Result<i32, Overflow>
     }
 }
 
-/// The numbers of two operands; none where one of them has none. The second is evaluated only where the first has one.
+/// The numbers of two operands; none where one of them has none. The second is evaluated only where
+/// the first has one.
 #[inline(always)]
 #[cycle(number)]
 fn both<R: Reader, M: Meanings, F: Answering<M>>(
@@ -54,7 +56,8 @@ fn both<R: Reader, M: Meanings, F: Answering<M>>(
 ) -> Option<(i64, i64)>
     requires first { IsEvaluable M.accepts (R.CanRead reader.now) a.now }
     requires second { IsEvaluable M.accepts (R.CanRead reader.now) b.now }
-    ensures { result ≡ of_both pair (number_of M.answer (R.sight reader.now) a.now) (number_of M.answer (R.sight reader.now) b.now) }
+    ensures { result ≡ of_both pair (number_of M.answer (R.sight reader.now) a.now)
+        (number_of M.answer (R.sight reader.now) b.now) }
 {
     let first = number(a, reader, hooks)?;
     let second = number(b, reader, hooks)?;
@@ -105,8 +108,8 @@ fn number<R: Reader, M: Meanings, F: Answering<M>>(
     }
 }
 
-/// Adds the numbers of the arguments to those before them; none where an argument has none. From one that has none on, no
-/// argument is evaluated.
+/// Adds the numbers of the arguments to those before them; none where an argument has none. From
+/// one that has none on, no argument is evaluated.
 #[cycle(number)]
 fn gather<R: Reader, M: Meanings, F: Answering<M>>(
     list: &Args,
@@ -116,7 +119,8 @@ fn gather<R: Reader, M: Meanings, F: Answering<M>>(
 ) -> Option<()>
     requires room { length before.old + count_in list.now ≤ 8 }
     requires each { AreEvaluable M.accepts (R.CanRead reader.now) list.now }
-    ensures numbers { option_map (λ _. before.new) result ≡ and_then (numbers_in M.answer (R.sight reader.now) list.now) (λ zs. Some (before.old ++ zs)) }
+    ensures numbers { option_map (λ _. before.new) result ≡ and_then
+        (numbers_in M.answer (R.sight reader.now) list.now) (λ zs. Some (before.old ++ zs)) }
     ensures count { OnSome result (length before.new ≡ length before.old + count_in list.now) }
 {
     match list {

@@ -8,7 +8,8 @@ use Rattle.wf_model.specs.declared.plan.Item.{Item}
 use Rattle.wf_model.specs.declared.plan.Item.TheVariants as item
 use Rattle.wf_model.specs.ExprFacts.{CallOf, parts_of}
 use Rattle.wf_model.specs.Sound.{IsHook, CallsHooks}
-use Rattle.wf_hooks.specs.Accepts.{HasFewArguments, AcceptsCalls, AcceptsHooks}
+use Rattle.wf_model.specs.Hooks.{HasFewArguments}
+use Rattle.wf_hooks.specs.Accepts.{AcceptsCalls, AcceptsHooks}
 use Rattle.wf_eval.specs.Evaluable.{IsAccepted}
 use Rattle.wf_grid.specs.Takeable.{CallsAreAccepted}
 

@@ -6,7 +6,7 @@ use Rattle.wf_model.specs.declared.plan.Phase.{Phase}
 use Rattle.wf_model.specs.Plans.{nx, ny, nz}
 use Rattle.wf_model.specs.Value.{Answers}
 use Rattle.wf_model.specs.Changes.{Spot}
-use Rattle.wf_grid.specs.declared.extents.Extents.{Extents}
+use Rattle.wf_model.specs.declared.extents.Extents.{Extents}
 use Rattle.wf_grid.specs.Levels.{place_in, IsPlaceIn, level_spots}
 use Rattle.wf_grid.specs.Filled.{AreExtents, spot_at, phase_number, IsFilled, StopsAt}
 use Rattle.wf_grid.proofs.Cells.{cells, length-cells, get_or-cells, level_within}

@@ -5,7 +5,7 @@ use Rattle.wf_model.specs.declared.plan.Plan.{Plan}
 use Rattle.wf_model.specs.declared.plan.Phase.{Phase}
 use Rattle.wf_model.specs.Plans.{nx, ny, nz}
 use Rattle.wf_model.specs.Value.{Answers}
-use Rattle.wf_grid.specs.declared.extents.Extents.{Extents}
+use Rattle.wf_model.specs.declared.extents.Extents.{Extents}
 use Rattle.wf_grid.specs.Levels.{AreLists, IsPlaceIn, place_in}
 use Rattle.wf_grid.specs.Filled.{AreExtents, phase_number, spot_at, IsFilled, StopsAt}
 use Rattle.wf_grid.specs.Spanned.{AreFilledTo, IsLevelLong}

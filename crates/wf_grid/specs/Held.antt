@@ -1,5 +1,6 @@
 -- What a run on whole domains holds, and what is left of it.
-use Rattle.std.specs.Prelude.{◌≡◌, ◌+◌, ◌^◌, ◌<◌, ◌≤◌, List, length, map, ℤ, Option, Some, None, Result, Ok, Err, slice_index_or}
+use Rattle.std.specs.Prelude.{◌≡◌, ◌+◌, ◌^◌, ◌<◌, ◌≤◌, List, length, map, ℤ, Option, Some, None}
+use Rattle.std.specs.Prelude.{Result, Ok, Err, slice_index_or}
 use Rattle.wf_model.specs.declared.plan.Plan.{Plan}
 use Rattle.wf_model.specs.declared.initial.Initial.{Initial}
 use Rattle.wf_model.specs.Sound.{IsSoundPlan, IsRangedPlan, IsFittingInitial, IsSoundFirst}
@@ -22,7 +23,8 @@ run_of w m = record { plan = w.plan; initial = w.initial; answers = m }
 
 -- the same with other numbers
 abbrev pub held_with : Held → List (List (List ℤ)) → Held
-held_with w lists = record { plan = w.plan; initial = record { grids = lists; begins = w.initial.begins } }
+held_with w lists =
+    record { plan = w.plan; initial = record { grids = lists; begins = w.initial.begins } }
 
 -- the lists of all domains in some grids
 abbrev pub all_lists : Plan → Grids → List (List (List ℤ))

@@ -1,5 +1,6 @@
 -- The lists of a domain's levels, and the grids that they stand for.
-use Rattle.std.specs.Prelude.{◌≡◌, ℕ, ◌+◌, ◌-◌, ◌*◌, ◌≤◌, List, map, flat_map, length, ℤ, Option, Some, if◌then◌else◌, slice_index_or}
+use Rattle.std.specs.Prelude.{◌≡◌, ℕ, ◌+◌, ◌-◌, ◌*◌, ◌≤◌, List, map, flat_map, length, ℤ, Option}
+use Rattle.std.specs.Prelude.{Some, if◌then◌else◌, slice_index_or}
 use Rattle.wf_model.specs.declared.plan.Plan.{Plan}
 use Rattle.wf_model.specs.Plans.{domain_of, up_to, levels_of, nx, ny, nz}
 use Rattle.wf_model.specs.Grids.{Grids, grid_from, level_list}
@@ -31,13 +32,16 @@ pub record AreLists (plan : Plan) (d : ℕ) (lists : List (List ℤ)) : Type 0 w
   pub wide : 2 ≤ (domain_of plan d).ide
   pub high : 2 ≤ (domain_of plan d).jde
   pub levels : length lists ≡ length plan.fields
-  pub each : (f : ℕ) → IsLevel plan f → length (slice_index_or lists f no_list) ≡ nz plan f * (ny plan d f * nx plan d f)
+  pub each : (f : ℕ) → IsLevel plan f →
+      length (slice_index_or lists f no_list) ≡ nz plan f * (ny plan d f * nx plan d f)
 
 -- the points of a level, in the order of its list
 unfoldable pub level_spots : Plan → ℕ → ℕ → List Spot
 level_spots plan d f =
-    flat_map (λ k. flat_map (λ j. map (λ i. record { field = f; k = k; j = j; i = i }) (up_to (nx plan d f))) (up_to (ny plan d f))) (up_to (nz plan f))
+    flat_map (λ k. flat_map (λ j. map (λ i. record { field = f; k = k; j = j; i = i })
+    (up_to (nx plan d f))) (up_to (ny plan d f))) (up_to (nz plan f))
 
 -- the number of a point after a change; none is an overflow
 abbrev pub number_after : Change → Grids → Spot → Option ℤ
-number_after c g p = if c.sets p.field p.k p.j p.i then c.value p.field p.k p.j p.i else Some (g c.domain p.field p.k p.j p.i)
+number_after c g p = if c.sets p.field p.k p.j p.i then c.value p.field p.k p.j p.i
+    else Some (g c.domain p.field p.k p.j p.i)

@@ -22,4 +22,5 @@ pub record IsRunnable (plan : Plan) (d : ℕ) (ph : Phase) : Type 0 where
   -- no divisor is 0
   pub divisors : All (λ n. 1 ≤ n) (parts_of ph.expr).divisors
   -- each read at a point of the region meets a point of the domain
-  pub reads : (k j i : ℕ) → IsTrue (in_region plan d ph k j i) → All (IsReadable plan d k j i) (reads_of ph.expr)
+  pub reads : (k j i : ℕ) → IsTrue (in_region plan d ph k j i) →
+      All (IsReadable plan d k j i) (reads_of ph.expr)

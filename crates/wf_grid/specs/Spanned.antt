@@ -19,7 +19,8 @@ IsSpan plan d ph k j s = (i : ℕ) → is_spanned s i ≡ in_region plan d ph k 
 
 -- a row of which a phase sets points, where it has some between the margins
 abbrev pub is_phase_row : Plan → ℕ → Phase → ℕ → ℕ → Bool
-is_phase_row plan d ph k j = is_phase_level plan ph k && is_inside (domain_of plan d).periodic_y ph.my (ny plan d ph.writes) j
+is_phase_row plan d ph k j = is_phase_level plan ph k
+    && is_inside (domain_of plan d).periodic_y ph.my (ny plan d ph.writes) j
 
 -- as long as the list of a level
 abbrev pub IsLevelLong : Plan → ℕ → ℕ → ℕ → Type 0
@@ -27,4 +28,5 @@ IsLevelLong plan d f n = n ≡ nz plan f * (ny plan d f * nx plan d f)
 
 -- the numbers of all points before a row stand in the list
 abbrev pub AreFilledTo : Plan → Answers → ℕ → List (List ℤ) → ℕ → Phase → ℕ → ℕ → List ℤ → Type 0
-AreFilledTo plan m d lists step ph k j numbers = IsFilled plan m d lists step ph (place_in (ny plan d ph.writes) (nx plan d ph.writes) k j 1) numbers
+AreFilledTo plan m d lists step ph k j numbers = IsFilled plan m d lists step ph
+    (place_in (ny plan d ph.writes) (nx plan d ph.writes) k j 1) numbers

@@ -18,7 +18,8 @@ pub record Left : Type 0 where
 
 -- what an item sets
 abbrev pub item_change : Plan → Answers → ℕ → List (List ℤ) → ℕ → ℕ → Change
-item_change plan m d lists step n = table_change plan m (grids_of plan d lists) d step (item_of plan n)
+item_change plan m d lists step n =
+    table_change plan m (grids_of plan d lists) d step (item_of plan n)
 
 -- the lists after a change, or as they were where a point overflows
 abbrev pub lists_after : Plan → ℕ → Change → List (List ℤ) → Option Point → List (List ℤ)
@@ -27,13 +28,16 @@ lists_after plan d c lists (Some p) = lists
 
 -- the point that overflows at an item
 abbrev pub item_point : Plan → Answers → ℕ → List (List ℤ) → ℕ → ℕ → Option Point
-item_point plan m d lists step n = option_map (point_of (item_change plan m d lists step n) (entry d step 0 (Table n))) (overflow_in plan (item_change plan m d lists step n))
+item_point plan m d lists step n =
+    option_map (point_of (item_change plan m d lists step n) (entry d step 0 (Table n)))
+    (overflow_in plan (item_change plan m d lists step n))
 
 -- after one item
 unfoldable pub left_by_item : Plan → Answers → ℕ → ℕ → ℕ → List (List ℤ) → Left
 left_by_item plan m d step n lists = record {
   point = item_point plan m d lists step n;
-  lists = lists_after plan d (item_change plan m d lists step n) lists (item_point plan m d lists step n);
+  lists = lists_after plan d (item_change plan m d lists step n) lists
+      (item_point plan m d lists step n);
 }
 
 -- on, where nothing overflowed
@@ -48,8 +52,10 @@ left_by f (n ∷ ns) lists = and_on (f n lists).point (f n lists).lists (left_by
 
 -- after one step
 abbrev pub left_by_step : Plan → Answers → ℕ → ℕ → List (List ℤ) → Left
-left_by_step plan m d step lists = left_by (left_by_item plan m d step) (range_with_len 0 (length plan.items)) lists
+left_by_step plan m d step lists =
+    left_by (left_by_item plan m d step) (range_with_len 0 (length plan.items)) lists
 
 -- after all steps, which go on from those before
 abbrev pub left_by_steps : Plan → Answers → ℕ → ℕ → List (List ℤ) → Left
-left_by_steps plan m d before lists = left_by (λ n ls. left_by_step plan m d (before + n + 1) ls) (range_with_len 0 plan.steps) lists
+left_by_steps plan m d before lists =
+    left_by (λ n ls. left_by_step plan m d (before + n + 1) ls) (range_with_len 0 plan.steps) lists

@@ -32,7 +32,8 @@ pub record IsTable (plan : Plan) (d : ℕ) : Type 0 where
 
 -- room for each level
 abbrev pub HasRoom : Plan → ℕ → List ℤ → Type 0
-HasRoom plan d scratch = (f : ℕ) → IsLevel plan f → nz plan f * (ny plan d f * nx plan d f) ≤ length scratch
+HasRoom plan d scratch =
+    (f : ℕ) → IsLevel plan f → nz plan f * (ny plan d f * nx plan d f) ≤ length scratch
 
 -- each stored function that an item calls accepts each list of numbers that it may be called on
 abbrev pub CallsAreAccepted : (ℕ → List ℤ → Type 0) → Item → Type 0

@@ -1,20 +1,12 @@
 //! The extents of field levels, and the places of points in their lists.
 
 ghost use Rattle.std.specs.Prelude.{◌≡◌, ℕ, ◌+◌, ◌-◌, ◌*◌, ◌^◌, ◌<◌, ◌≤◌, ◌||◌, IsTrue, pos, ◌+ℤ◌};
-ghost use Rattle.wf_model.specs.Plans.{domain_of, field_of, extra, wrapped};
+ghost use Rattle.wf_model.specs.Plans.{domain_of, field_of, wrapped};
 ghost use Rattle.wf_model.specs.Sound.{IsDomain, IsLevel};
 ghost use Rattle.wf_model.specs.Patches.{in_span};
 ghost use Rattle.wf_grid.specs.Levels.{IsPlaceIn, place_in};
 
-use wf_model::{Domain, Field, Plan};
-
-/// How many points of its own a field level has from west to east and from south to north, and how many levels in z.
-#[derive(Clone, Copy, Debug, PartialEq, Eq)]
-pub struct Extents {
-    pub columns: u32,
-    pub rows: u32,
-    pub levels: u32,
-}
+use wf_model::{Domain, Extents, Field, Plan};
 
 /// A point of a level, by its numbers from 1.
 #[derive(Clone, Copy, Debug, PartialEq, Eq)]
@@ -40,27 +32,6 @@ pub fn level(plan: &Plan, field: u32) -> &Field
     &plan.fields.as_slice()[field as usize]
 }
 
-/// A field that is staggered has one point more, but in a periodic direction.
-fn points(end: u32, staggered: bool, periodic: bool) -> u32
-    ensures { result ≡ end - 1 + extra staggered periodic }
-{
-    let own = end.saturating_sub(1);
-    if staggered && !periodic { own + 1 } else { own }
-}
-
-/// The extents of a field level in a domain.
-pub fn extents_of(domain: &Domain, field: &Field) -> Extents
-    ensures columns { result.columns ≡ domain.now.ide - 1 + extra field.now.stag_x domain.now.periodic_x }
-    ensures rows { result.rows ≡ domain.now.jde - 1 + extra field.now.stag_y domain.now.periodic_y }
-    ensures levels { result.levels ≡ field.now.nz }
-{
-    Extents {
-        columns: points(domain.ide, field.stag_x, domain.periodic_x),
-        rows: points(domain.jde, field.stag_y, domain.periodic_y),
-        levels: field.nz,
-    }
-}
-
 /// The place of a point in the list of its level, from 0: k, then j, then i, with i fastest.
 pub fn place(extents: Extents, here: Here, count: usize) -> usize
     requires inside { IsPlaceIn extents.levels extents.rows extents.columns here.k here.j here.i }
@@ -75,7 +46,8 @@ pub fn place(extents: Extents, here: Here, count: usize) -> usize
 /// The number of the point at a place: in a periodic direction places wrap.
 pub fn wrapped_place(periodic: bool, count: u32, from: u32, by: i32) -> u32
     requires some { 1 ≤ count }
-    requires inside { IsTrue (periodic || in_span (record { low = pos 1; high = pos (count + 1) }) (pos from +ℤ by)) }
+    requires inside { IsTrue
+        (periodic || in_span (record { low = pos 1; high = pos (count + 1) }) (pos from +ℤ by)) }
     ensures value { result ≡ wrapped periodic count (pos from +ℤ by) }
     ensures low { 1 ≤ result }
     ensures high { result ≤ count }

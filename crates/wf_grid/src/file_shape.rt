@@ -1,6 +1,7 @@
 //! Levels in file shape, and the slabs of a frame.
 
-ghost use Rattle.std.specs.Prelude.{◌≡◌, ◌+◌, ◌-◌, ◌*◌, ◌^◌, ◌<◌, ◌≤◌, ◌++◌, IfOk, OnOk, Some, map, length};
+ghost use Rattle.std.specs.Prelude.{◌≡◌, ◌+◌, ◌-◌, ◌*◌, ◌^◌, ◌<◌, ◌≤◌, ◌++◌, IfOk, OnOk, Some, map};
+ghost use Rattle.std.specs.Prelude.{length};
 ghost use Rattle.std.specs.List.{slice_get};
 ghost use Rattle.wf_model.specs.Frames.{frames_of};
 ghost use Rattle.wf_model.specs.Plans.{nx, ny, nz};
@@ -12,12 +13,13 @@ ghost use Rattle.wf_grid.specs.Levels.{AreLists, IsPlaceIn, grids_of};
 ghost use Rattle.wf_grid.specs.Reached.{IsSteppable, IsReached};
 ghost use Rattle.wf_stream.specs.Writing.{label, labels};
 
-use crate::extents::{Extents, Here, domain, level, wrapped_place};
+use crate::extents::{Here, domain, level, wrapped_place};
 use crate::sizes::level_size;
 use crate::surroundings::number_in;
 use std::alloc::{AllocError, Global};
 use wf_cdf::stream_levels;
-use wf_model::{Frame, List, Plan, Run, RunName, Slab};
+use wf_model::extents::file_points;
+use wf_model::{Extents, Frame, List, Plan, Run, RunName, Slab};
 
 /// A level of a domain with its extents, and the numbers of all levels of the domain.
 #[derive(Clone, Copy, Drop)]
@@ -34,24 +36,21 @@ struct Numbers<'a> {
 
 /// The number of a point of the level.
 fn number_of(at: &Numbers, here: Here) -> i32
-    requires { IsPlaceIn (nz at.now.plan.now at.now.field) (ny at.now.plan.now at.now.number at.now.field) (nx at.now.plan.now at.now.number at.now.field) here.k here.j here.i }
-    ensures { result ≡ grids_of at.now.plan.now at.now.number at.now.levels.now at.now.number at.now.field here.k here.j here.i }
+    requires { IsPlaceIn (nz at.now.plan.now at.now.field) (ny at.now.plan.now at.now.number
+        at.now.field) (nx at.now.plan.now at.now.number at.now.field) here.k here.j here.i }
+    ensures { result ≡ grids_of at.now.plan.now at.now.number at.now.levels.now at.now.number
+        at.now.field here.k here.j here.i }
 {
     number_in(at.levels, at.field, at.extents, here)
 }
 
-/// The points of a direction in files: there a staggered field has its extra point in a periodic direction too.
-fn file_points(end: u32, staggered: bool) -> u32
-    ensures { result ≡ end - 1 + one_if staggered }
-{
-    end.saturating_sub(1) + u32::from(staggered)
-}
-
-/// Adds a row of a level in file shape: in a periodic direction the extra point of a staggered field is its first.
+/// Adds a row of a level in file shape: in a periodic direction the extra point of a staggered
+/// field is its first.
 fn push_row(at: &Numbers, k: u32, j: u32, values: &mut Vec<i32>) -> Result<(), AllocError>
     requires in_z { (1 ≤ k) × (k ≤ nz at.now.plan.now at.now.field) }
     requires in_y { (1 ≤ j) × (j ≤ ny at.now.plan.now at.now.number at.now.field) }
-    ensures { OnOk result (values.new.items ≡ values.old.items ++ file_row at.now.plan.now at.now.number at.now.field at.now.levels.now k j) }
+    ensures { OnOk result (values.new.items ≡ values.old.items
+        ++ file_row at.now.plan.now at.now.number at.now.field at.now.levels.now k j) }
 {
     let domain = domain(at.plan, at.number);
     let level = level(at.plan, at.field);
@@ -64,10 +63,12 @@ fn push_row(at: &Numbers, k: u32, j: u32, values: &mut Vec<i32>) -> Result<(), A
     Ok(())
 }
 
-/// Adds the rows of a level in z: in a periodic direction the extra row of a staggered field is its first.
+/// Adds the rows of a level in z: in a periodic direction the extra row of a staggered field is
+/// its first.
 fn push_plane(at: &Numbers, k: u32, values: &mut Vec<i32>) -> Result<(), AllocError>
     requires { (1 ≤ k) × (k ≤ nz at.now.plan.now at.now.field) }
-    ensures { OnOk result (values.new.items ≡ values.old.items ++ file_plane at.now.plan.now at.now.number at.now.field at.now.levels.now k) }
+    ensures { OnOk result (values.new.items ≡ values.old.items
+        ++ file_plane at.now.plan.now at.now.number at.now.field at.now.levels.now k) }
 {
     let domain = domain(at.plan, at.number);
     let level = level(at.plan, at.field);
@@ -85,8 +86,12 @@ fn push_plane(at: &Numbers, k: u32, values: &mut Vec<i32>) -> Result<(), AllocEr
 
 /// How many numbers a level has in file shape: the room that is reserved for them.
 fn file_room(at: &Numbers) -> usize
-    ensures most { result ≤ nz at.now.plan.now at.now.field * file_y at.now.plan.now at.now.number at.now.field * file_x at.now.plan.now at.now.number at.now.field }
-    ensures all { nz at.now.plan.now at.now.field * file_y at.now.plan.now at.now.number at.now.field * file_x at.now.plan.now at.now.number at.now.field < 2 ^ 64 → result ≡ nz at.now.plan.now at.now.field * file_y at.now.plan.now at.now.number at.now.field * file_x at.now.plan.now at.now.number at.now.field }
+    ensures most { result ≤ nz at.now.plan.now at.now.field * file_y at.now.plan.now at.now.number
+        at.now.field * file_x at.now.plan.now at.now.number at.now.field }
+    ensures all { nz at.now.plan.now at.now.field * file_y at.now.plan.now at.now.number
+        at.now.field * file_x at.now.plan.now at.now.number at.now.field < 2 ^ 64 → result
+        ≡ nz at.now.plan.now at.now.field * file_y at.now.plan.now at.now.number at.now.field
+        * file_x at.now.plan.now at.now.number at.now.field }
 {
     let domain = domain(at.plan, at.number);
     let level = level(at.plan, at.field);
@@ -99,7 +104,8 @@ fn file_room(at: &Numbers) -> usize
 
 /// The numbers of a level in file shape, in order k, j, i.
 fn file_numbers(alloc: Global, at: &Numbers) -> Result<Vec<i32>, AllocError>
-    ensures { IfOk result (λ v. v.items ≡ file_list at.now.plan.now at.now.number at.now.field (grids_of at.now.plan.now at.now.number at.now.levels.now)) }
+    ensures { IfOk result (λ v. v.items ≡ file_list at.now.plan.now at.now.number at.now.field
+        (grids_of at.now.plan.now at.now.number at.now.levels.now)) }
 {
     let mut values = Vec::with_capacity(alloc, file_room(at))?;
     for k in 0..level(at.plan, at.field).nz {

@@ -21,7 +21,15 @@ fn item(plan: &Plan, number: u32) -> &Item
 
 /// The point of a phase that overflowed.
 fn named(domain: u32, step: u64, item: u32, field: u32, here: Option<Here>) -> Option<Point>
-    ensures { result ≡ option_map (λ h. record { domain = domain; step = step; what = What.Phase item; field = field; k = h.k; j = h.j; i = h.i }) here }
+    ensures { result ≡ option_map (λ h. record {
+      domain = domain;
+      step = step;
+      what = What.Phase item;
+      field = field;
+      k = h.k;
+      j = h.j;
+      i = h.i;
+    }) here }
 {
     match here {
         Some(here) => Some(Point {
@@ -37,8 +45,8 @@ fn named(domain: u32, step: u64, item: u32, field: u32, here: Option<Here>) -> O
     }
 }
 
-/// Does an item of the table on a whole domain, or gives the first point that overflows and changes nothing. An
-/// exchange between patches changes no whole domain.
+/// Does an item of the table on a whole domain, or gives the first point that overflows and changes
+/// nothing. An exchange between patches changes no whole domain.
 pub fn take_item<M: Meanings, F: Answering<M>>(
     plan: &Plan,
     number: u32,
@@ -54,7 +62,8 @@ pub fn take_item<M: Meanings, F: Answering<M>>(
     requires item { place < length plan.now.items }
     requires room { HasRoom plan.now number scratch.old }
     ensures point { result ≡ (left_by_item plan.now M.answer number step place levels.old).point }
-    ensures lists { levels.new ≡ (left_by_item plan.now M.answer number step place levels.old).lists }
+    ensures lists { levels.new
+        ≡ (left_by_item plan.now M.answer number step place levels.old).lists }
     ensures scratch { length scratch.new ≡ length scratch.old }
 {
     match item(plan, place) {

@@ -1,6 +1,9 @@
-//! A phase on a whole domain: all its numbers are computed from the old ones, and then they are set.
+//! A phase on a whole domain: all its numbers are computed from the old ones, and then they
+//! are set.
 
-ghost use Rattle.std.specs.Prelude.{◌≡◌, All, ℕ, ◌+◌, ◌*◌, ◌<◌, ◌≤◌, ◌==◌, false, length, if◌then◌else◌, IfSome, None, option_map, is_none, slice_set, slice_index_or};
+ghost use Rattle.std.specs.Prelude.{◌≡◌, All, ℕ, ◌+◌, ◌*◌, ◌<◌, ◌≤◌, ◌==◌, false, length};
+ghost use Rattle.std.specs.Prelude.{if◌then◌else◌, IfSome, None, option_map, is_none, slice_set};
+ghost use Rattle.std.specs.Prelude.{slice_index_or};
 ghost use Rattle.wf_model.specs.Plans.{nx, ny, nz, is_inside, is_within};
 ghost use Rattle.wf_model.specs.ExprFacts.{parts_of};
 ghost use Rattle.wf_model.specs.Changes.{in_region, phase_change, changed, overflow_in};
@@ -11,16 +14,17 @@ ghost use Rattle.wf_grid.specs.Filled.{AreExtents, spot_of, phase_number, IsFill
 ghost use Rattle.wf_grid.specs.Spanned.{AreFilledTo, IsLevelLong, IsSpan, is_phase_row, is_spanned};
 ghost use Rattle.wf_grid.specs.Reading.{IsRunnable};
 
-use crate::extents::{Extents, Here, domain, extents_of, level, place};
+use crate::extents::{Here, domain, level, place};
 use crate::sizes::all_sizes;
 use crate::surroundings::{OldNumbers, Surroundings, number_here};
 use wf_eval::eval;
 use wf_hooks::{Answering, HookTable, Meanings};
-use wf_model::{List, Phase, Plan};
+use wf_model::{Extents, List, Phase, Plan};
 
 /// Whether a phase sets a level of its field.
 fn is_phase_level(phase: &Phase, levels: u32, k: u32) -> bool
-    ensures { result ≡ (if phase.now.from == 0 then is_within 1 levels k else is_within phase.now.from phase.now.to k) }
+    ensures { result ≡ (if phase.now.from == 0 then is_within 1 levels k
+        else is_within phase.now.from phase.now.to k) }
 {
     if phase.from == 0 {
         1 <= k && k <= levels
@@ -36,7 +40,8 @@ pub struct Span {
     pub last: u32,
 }
 
-/// The points of a direction that are at least the margin from both ends, which is 0 in a periodic direction.
+/// The points of a direction that are at least the margin from both ends, which is 0 in a
+/// periodic direction.
 fn inner_span(periodic: bool, margin: u32, count: u32) -> Span
     ensures { (x : ℕ) → is_spanned result x ≡ is_inside periodic margin count x }
 {
@@ -90,8 +95,10 @@ fn span_of(old: &OldNumbers, phase: &Phase, extents: Extents, k: u32, j: u32) ->
 
 /// Whether a phase sets a point, of whose row it sets these.
 fn is_in_region(at: &Surroundings, phase: &Phase, span: Span) -> bool
-    requires { IsSpan at.now.old.now.plan.now at.now.old.now.number phase.now at.now.here.k at.now.here.j span }
-    ensures { result ≡ in_region at.now.old.now.plan.now at.now.old.now.number phase.now at.now.here.k at.now.here.j at.now.here.i }
+    requires { IsSpan at.now.old.now.plan.now at.now.old.now.number phase.now at.now.here.k
+        at.now.here.j span }
+    ensures { result ≡ in_region at.now.old.now.plan.now at.now.old.now.number phase.now
+        at.now.here.k at.now.here.j at.now.here.i }
 {
     is_spanned(span, at.here.i)
 }
@@ -105,9 +112,14 @@ fn number_after<M: Meanings, F: Answering<M>>(
 ) -> Option<i32>
     requires runnable { IsRunnable at.now.old.now.plan.now at.now.old.now.number phase.now }
     requires calls { All (IsAccepted M.accepts) (parts_of phase.now.expr).calls }
-    requires span { IsSpan at.now.old.now.plan.now at.now.old.now.number phase.now at.now.here.k at.now.here.j span }
-    requires inside { IsPlaceIn (nz at.now.old.now.plan.now phase.now.writes) (ny at.now.old.now.plan.now at.now.old.now.number phase.now.writes) (nx at.now.old.now.plan.now at.now.old.now.number phase.now.writes) at.now.here.k at.now.here.j at.now.here.i }
-    ensures { result ≡ phase_number at.now.old.now.plan.now M.answer at.now.old.now.number at.now.old.now.levels.now at.now.old.now.step phase.now (spot_of phase.now.writes at.now.here) }
+    requires span { IsSpan at.now.old.now.plan.now at.now.old.now.number phase.now at.now.here.k
+        at.now.here.j span }
+    requires inside { IsPlaceIn (nz at.now.old.now.plan.now phase.now.writes) (ny
+        at.now.old.now.plan.now at.now.old.now.number phase.now.writes) (nx at.now.old.now.plan.now
+        at.now.old.now.number phase.now.writes) at.now.here.k at.now.here.j at.now.here.i }
+    ensures { result ≡ phase_number at.now.old.now.plan.now M.answer at.now.old.now.number
+        at.now.old.now.levels.now at.now.old.now.step phase.now
+        (spot_of phase.now.writes at.now.here) }
 {
     if is_in_region(at, phase, span) {
         eval(&phase.expr, at, hooks).ok()
@@ -116,8 +128,8 @@ fn number_after<M: Meanings, F: Answering<M>>(
     }
 }
 
-/// Sets a row of the scratch to the numbers that the written level has after a phase, or gives the first point that
-/// overflows. The rows before it are set.
+/// Sets a row of the scratch to the numbers that the written level has after a phase, or gives the
+/// first point that overflows. The rows before it are set.
 fn fill_row<M: Meanings, F: Answering<M>>(
     old: &OldNumbers,
     phase: &Phase,
@@ -132,11 +144,16 @@ fn fill_row<M: Meanings, F: Answering<M>>(
     requires extents { AreExtents old.now.plan.now old.now.number phase.now.writes extents }
     requires in_z { (1 ≤ k) × (k ≤ nz old.now.plan.now phase.now.writes) }
     requires in_y { (1 ≤ j) × (j ≤ ny old.now.plan.now old.now.number phase.now.writes) }
-    requires size { IsLevelLong old.now.plan.now old.now.number phase.now.writes (length scratch.old) }
-    requires filled { AreFilledTo old.now.plan.now M.answer old.now.number old.now.levels.now old.now.step phase.now k j scratch.old }
-    ensures size { IsLevelLong old.now.plan.now old.now.number phase.now.writes (length scratch.new) }
-    ensures filled { result ≡ None → AreFilledTo old.now.plan.now M.answer old.now.number old.now.levels.now old.now.step phase.now k (j + 1) scratch.new }
-    ensures stopped { IfSome result (λ here. StopsAt old.now.plan.now M.answer old.now.number old.now.levels.now old.now.step phase.now (spot_of phase.now.writes here)) }
+    requires size { IsLevelLong old.now.plan.now old.now.number phase.now.writes
+        (length scratch.old) }
+    requires filled { AreFilledTo old.now.plan.now M.answer old.now.number old.now.levels.now
+        old.now.step phase.now k j scratch.old }
+    ensures size { IsLevelLong old.now.plan.now old.now.number phase.now.writes
+        (length scratch.new) }
+    ensures filled { result ≡ None → AreFilledTo old.now.plan.now M.answer old.now.number
+        old.now.levels.now old.now.step phase.now k (j + 1) scratch.new }
+    ensures stopped { IfSome result (λ here. StopsAt old.now.plan.now M.answer old.now.number
+        old.now.levels.now old.now.step phase.now (spot_of phase.now.writes here)) }
 {
     let span = span_of(old, phase, extents, k, j);
     let start = place(extents, Here { k, j, i: 1 }, scratch.len());
@@ -163,11 +180,16 @@ fn fill_plane<M: Meanings, F: Answering<M>>(
     requires calls { All (IsAccepted M.accepts) (parts_of phase.now.expr).calls }
     requires extents { AreExtents old.now.plan.now old.now.number phase.now.writes extents }
     requires in_z { (1 ≤ k) × (k ≤ nz old.now.plan.now phase.now.writes) }
-    requires size { IsLevelLong old.now.plan.now old.now.number phase.now.writes (length scratch.old) }
-    requires filled { AreFilledTo old.now.plan.now M.answer old.now.number old.now.levels.now old.now.step phase.now k 1 scratch.old }
-    ensures size { IsLevelLong old.now.plan.now old.now.number phase.now.writes (length scratch.new) }
-    ensures filled { result ≡ None → AreFilledTo old.now.plan.now M.answer old.now.number old.now.levels.now old.now.step phase.now (k + 1) 1 scratch.new }
-    ensures stopped { IfSome result (λ here. StopsAt old.now.plan.now M.answer old.now.number old.now.levels.now old.now.step phase.now (spot_of phase.now.writes here)) }
+    requires size { IsLevelLong old.now.plan.now old.now.number phase.now.writes
+        (length scratch.old) }
+    requires filled { AreFilledTo old.now.plan.now M.answer old.now.number old.now.levels.now
+        old.now.step phase.now k 1 scratch.old }
+    ensures size { IsLevelLong old.now.plan.now old.now.number phase.now.writes
+        (length scratch.new) }
+    ensures filled { result ≡ None → AreFilledTo old.now.plan.now M.answer old.now.number
+        old.now.levels.now old.now.step phase.now (k + 1) 1 scratch.new }
+    ensures stopped { IfSome result (λ here. StopsAt old.now.plan.now M.answer old.now.number
+        old.now.levels.now old.now.step phase.now (spot_of phase.now.writes here)) }
 {
     for y in 0..extents.rows {
         if let Some(here) = fill_row(old, phase, extents, k, y + 1, scratch, hooks) {
@@ -177,7 +199,8 @@ fn fill_plane<M: Meanings, F: Answering<M>>(
     None
 }
 
-/// Sets the scratch to the numbers that the written level has after a phase, or gives the first point that overflows.
+/// Sets the scratch to the numbers that the written level has after a phase, or gives the first
+/// point that overflows.
 fn fill<M: Meanings, F: Answering<M>>(
     plan: &Plan,
     number: u32,
@@ -191,12 +214,16 @@ fn fill<M: Meanings, F: Answering<M>>(
     requires runnable { IsRunnable plan.now number phase.now }
     requires calls { All (IsAccepted M.accepts) (parts_of phase.now.expr).calls }
     requires fields { length plan.now.fields ≤ 64 }
-    requires size { length scratch.old ≡ nz plan.now phase.now.writes * (ny plan.now number phase.now.writes * nx plan.now number phase.now.writes) }
-    ensures length { length scratch.new ≡ nz plan.now phase.now.writes * (ny plan.now number phase.now.writes * nx plan.now number phase.now.writes) }
-    ensures done { result ≡ None → IsFilled plan.now M.answer number levels.now step phase.now (length scratch.new) scratch.new }
-    ensures stopped { IfSome result (λ here. StopsAt plan.now M.answer number levels.now step phase.now (spot_of phase.now.writes here)) }
+    requires size { length scratch.old ≡ nz plan.now phase.now.writes
+        * (ny plan.now number phase.now.writes * nx plan.now number phase.now.writes) }
+    ensures length { length scratch.new ≡ nz plan.now phase.now.writes
+        * (ny plan.now number phase.now.writes * nx plan.now number phase.now.writes) }
+    ensures done { result ≡ None → IsFilled plan.now M.answer number levels.now step phase.now
+        (length scratch.new) scratch.new }
+    ensures stopped { IfSome result (λ here. StopsAt plan.now M.answer number levels.now step
+        phase.now (spot_of phase.now.writes here)) }
 {
-    let extents = extents_of(domain(plan, number), level(plan, phase.writes));
+    let extents = domain(plan, number).extents(level(plan, phase.writes));
     let old = OldNumbers {
         plan,
         number,
@@ -237,9 +264,14 @@ pub fn run_phase<M: Meanings, F: Answering<M>>(
     requires runnable { IsRunnable plan.now number phase.now }
     requires calls { All (IsAccepted M.accepts) (parts_of phase.now.expr).calls }
     requires fields { length plan.now.fields ≤ 64 }
-    requires size { length (slice_index_or levels.old phase.now.writes no_list) ≤ length scratch.old }
-    ensures point { option_map (spot_of phase.now.writes) result ≡ overflow_in plan.now (phase_change plan.now M.answer (grids_of plan.now number levels.old) number step phase.now) }
-    ensures lists { levels.new ≡ (if is_none result then lists_of plan.now number (changed (phase_change plan.now M.answer (grids_of plan.now number levels.old) number step phase.now) (grids_of plan.now number levels.old)) else levels.old) }
+    requires size { length (slice_index_or levels.old phase.now.writes no_list)
+        ≤ length scratch.old }
+    ensures point { option_map (spot_of phase.now.writes) result
+        ≡ overflow_in plan.now (phase_change plan.now M.answer
+        (grids_of plan.now number levels.old) number step phase.now) }
+    ensures lists { levels.new ≡ (if is_none result then lists_of plan.now number (changed
+        (phase_change plan.now M.answer (grids_of plan.now number levels.old) number step phase.now)
+        (grids_of plan.now number levels.old)) else levels.old) }
 {
     let count = levels[phase.writes as usize].as_slice().len();
     let scratch = &mut scratch[..count];

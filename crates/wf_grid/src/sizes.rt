@@ -4,8 +4,8 @@ ghost use Rattle.std.specs.Prelude.{◌≡◌, ℕ, ◌≤◌, length, slice_ind
 ghost use Rattle.wf_model.specs.Sound.{IsDomain, IsLevel};
 ghost use Rattle.wf_grid.specs.Sized.{IsSize, AreSizes, no_size};
 
-use crate::extents::{Extents, domain, extents_of, level};
-use wf_model::Plan;
+use crate::extents::{domain, level};
+use wf_model::{Extents, Plan};
 
 /// The extents of a field level, and whether it has a z letter.
 #[derive(Clone, Copy, Debug, PartialEq, Eq)]
@@ -32,7 +32,7 @@ pub fn level_size(plan: &Plan, number: u32, field: u32) -> LevelSize
 {
     let level = level(plan, field);
     LevelSize {
-        extents: extents_of(domain(plan, number), level),
+        extents: domain(plan, number).extents(level),
         z: level.z,
     }
 }
@@ -55,7 +55,8 @@ fn no_size() -> LevelSize
 fn level_sizes(plan: &Plan, number: u32) -> [LevelSize; 64]
     requires domain { IsDomain plan.now number }
     requires few { length plan.now.fields ≤ 64 }
-    ensures { (f : ℕ) → IsLevel plan.now f → IsSize plan.now number f (slice_index_or result f no_size) }
+    ensures { (f : ℕ) → IsLevel plan.now f
+        → IsSize plan.now number f (slice_index_or result f no_size) }
 {
     let mut sizes = [no_size(); 64];
     for field in 0..plan.fields.as_slice().len() as u32 {

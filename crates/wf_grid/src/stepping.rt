@@ -1,6 +1,7 @@
 //! A run on whole domains, from its begin data to its files.
 
-ghost use Rattle.std.specs.Prelude.{◌≡◌, All, ◌+◌, ◌<◌, ◌≤◌, [], None, Some, IfOk, IfErr, IfSome, OnOk, length, slice_index_or};
+ghost use Rattle.std.specs.Prelude.{◌≡◌, All, ◌+◌, ◌<◌, ◌≤◌, [], None, Some, IfOk, IfErr, IfSome};
+ghost use Rattle.std.specs.Prelude.{OnOk, length, slice_index_or};
 ghost use Rattle.std.specs.List.{slice_get};
 ghost use Rattle.wf_model.specs.Files.{Files};
 ghost use Rattle.wf_model.specs.Frames.{frames_of};
@@ -26,7 +27,8 @@ use wf_io::Store;
 use wf_model::{Act, CoreError, Finished, Frame, Initial, Layout, List, Plan, Point, Run, RunName};
 use wf_stream::{Frames, StreamError, Totals, Writer};
 
-/// Does the item at a place of the script, from 0, or gives the point that overflows there. A frame changes nothing.
+/// Does the item at a place of the script, from 0, or gives the point that overflows there. A frame
+/// changes nothing.
 fn take_entry<N: RunName, M: Meanings, F: Answering<M>>(
     run: &Run<'_, N>,
     place: usize,
@@ -61,7 +63,8 @@ fn take_entry<N: RunName, M: Meanings, F: Answering<M>>(
     }
 }
 
-/// Does the items from one place of the script up to another, without the last, or up to the first that overflows.
+/// Does the items from one place of the script up to another, without the last, or up to the first
+/// that overflows.
 fn take_items<N: RunName, M: Meanings, F: Answering<M>>(
     run: &Run<'_, N>,
     from: usize,
@@ -92,7 +95,8 @@ fn take_items<N: RunName, M: Meanings, F: Answering<M>>(
 /// Writes a frame that the run has reached.
 ///
 /// # Errors
-/// `Store` where a call of the store failed, or want of memory. A first part of the frame's calls was then made.
+/// `Store` where a call of the store failed, or want of memory. A first part of the frame's calls
+/// was then made.
 fn write_next<N: RunName, S: Store>(
     alloc: Global,
     run: &Run<'_, N>,
@@ -106,9 +110,12 @@ fn write_next<N: RunName, S: Store>(
     requires reached { IsReached N.run frame.place levels.now }
     requires written { writer.old ≡ record { number = frame.number; failed = None } }
     requires there { (m : Files) → S.files store.old ≡ Some m → HasFile frame m }
-    ensures ok { OnOk result (Ran (frame_calls N.run frame) (S.files store.old) (S.files store.new)) }
-    ensures written { OnOk result (writer.new ≡ record { number = frame.number + 1; failed = None }) }
-    ensures error { IfErr result (FrameEnds N.run frame (S.files store.old) (S.files store.new) (S.faults store.old) (S.faults store.new) (S.failed store.new)) }
+    ensures ok { OnOk result
+        (Ran (frame_calls N.run frame) (S.files store.old) (S.files store.new)) }
+    ensures written { OnOk result
+        (writer.new ≡ record { number = frame.number + 1; failed = None }) }
+    ensures error { IfErr result (FrameEnds N.run frame (S.files store.old) (S.files store.new)
+        (S.faults store.old) (S.faults store.new) (S.failed store.new)) }
     ensures later { S.faults store.old ≤ S.faults store.new }
 {
     let slabs = match slabs_of(alloc, run, &frame, levels) {
@@ -134,7 +141,13 @@ fn place_of<N: RunName>(run: &Run<'_, N>, frame: &Option<Frame>) -> usize
 
 /// What is told of a run that ended, from what was written.
 fn finished(alloc: Global, totals: Totals) -> Finished
-    ensures { result ≡ record { files = totals.files; records = totals.records; bytes = totals.bytes; sum = totals.sum; memories = [] } }
+    ensures { result ≡ record {
+      files = totals.files;
+      records = totals.records;
+      bytes = totals.bytes;
+      sum = totals.sum;
+      memories = [];
+    } }
 {
     Finished {
         files: totals.files,
@@ -162,7 +175,8 @@ fn write_frames<N: RunName, S: Store, M: Meanings, F: Answering<M>>(
     ensures settled { OnOk result (point_at_end (outcome_of N.run) ≡ None) }
     ensures written { OnOk result (Ran (writes_of N.run) (S.files store.old) (S.files store.new)) }
     ensures finished { IfOk result (λ f. f ≡ finished_of (summary_of N.run)) }
-    ensures error { IfErr result (EndsBy N.run (S.files store.old) (S.files store.new) (S.faults store.old) (S.faults store.new) (S.failed store.new)) }
+    ensures error { IfErr result (EndsBy N.run (S.files store.old) (S.files store.new)
+        (S.faults store.old) (S.faults store.new) (S.failed store.new)) }
     ensures later { S.faults store.old ≤ S.faults store.new }
 {
     let mut frames = match Frames::new(alloc, run) {
@@ -196,7 +210,8 @@ fn write_frames<N: RunName, S: Store, M: Meanings, F: Answering<M>>(
     }
 }
 
-/// Steps the run of a plan, how its domains begin and one patch for each domain, and writes its frames.
+/// Steps the run of a plan, how its domains begin and one patch for each domain, and writes its
+/// frames.
 fn run_all<N: RunName, S: Store, M: Meanings, F: Answering<M>>(
     alloc: Global,
     plan: &Plan,
@@ -216,7 +231,8 @@ fn run_all<N: RunName, S: Store, M: Meanings, F: Answering<M>>(
     ensures settled { OnOk result (point_at_end (outcome_of N.run) ≡ None) }
     ensures written { OnOk result (Ran (writes_of N.run) (S.files store.old) (S.files store.new)) }
     ensures finished { IfOk result (λ f. f ≡ finished_of (summary_of N.run)) }
-    ensures error { IfErr result (EndsBy N.run (S.files store.old) (S.files store.new) (S.faults store.old) (S.faults store.new) (S.failed store.new)) }
+    ensures error { IfErr result (EndsBy N.run (S.files store.old) (S.files store.new)
+        (S.faults store.old) (S.faults store.new) (S.failed store.new)) }
     ensures later { S.faults store.old ≤ S.faults store.new }
 {
     let layout = Layout {
@@ -237,13 +253,14 @@ fn run_all<N: RunName, S: Store, M: Meanings, F: Answering<M>>(
 }
 
 impl Whole {
-    /// Steps the run, point by point, and writes its frames into the files of the store. Stored functions answer as the
-    /// table does.
+    /// Steps the run, point by point, and writes its frames into the files of the store. Stored
+    /// functions answer as the table does.
     ///
     /// # Errors
-    /// `Overflow` with the first overflow of the run: the frames before it are then written, and no others. `Store` with the
-    /// file's name where a call of the store failed, which the store counted; no call followed it. Or want of memory. After
-    /// these two a first part of the run's store calls was made.
+    /// `Overflow` with the first overflow of the run: the frames before it are then written, and no
+    /// others. `Store` with the file's name where a call of the store failed, which the store
+    /// counted; no call followed it. Or want of memory. After these two a first part of the run's
+    /// store calls was made.
     pub fn step_all<S: Store, M: Meanings, F: Answering<M>>(
         self,
         store: &mut S,
@@ -252,9 +269,11 @@ impl Whole {
         requires files { FilesFit self.plan }
         requires calls { All (CallsAreAccepted M.accepts) self.plan.items }
         ensures settled { OnOk result (point_at_end (outcome_of (run_of self M.answer)) ≡ None) }
-        ensures written { OnOk result (Ran (writes_of (run_of self M.answer)) (S.files store.old) (S.files store.new)) }
+        ensures written { OnOk result
+            (Ran (writes_of (run_of self M.answer)) (S.files store.old) (S.files store.new)) }
         ensures finished { IfOk result (λ f. f ≡ finished_of (summary_of (run_of self M.answer))) }
-        ensures error { IfErr result (EndsBy (run_of self M.answer) (S.files store.old) (S.files store.new) (S.faults store.old) (S.faults store.new) (S.failed store.new)) }
+        ensures error { IfErr result (EndsBy (run_of self M.answer) (S.files store.old)
+            (S.files store.new) (S.faults store.old) (S.faults store.new) (S.failed store.new)) }
         ensures later { S.faults store.old ≤ S.faults store.new }
     {
         let Whole {

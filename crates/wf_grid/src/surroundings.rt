@@ -1,6 +1,7 @@
 //! What the expression of a phase sees at a point of whole domains.
 
-ghost use Rattle.std.specs.Prelude.{◌≡◌, ◌*◌, ◌^◌, ◌<◌, ◌≤◌, IsTrue, length, pos, ◌+ℤ◌, ◌≤ℤ◌, unsigned_abs, if◌then◌else◌, slice_index_or};
+ghost use Rattle.std.specs.Prelude.{◌≡◌, ◌*◌, ◌^◌, ◌<◌, ◌≤◌, IsTrue, length, pos, ◌+ℤ◌, ◌≤ℤ◌};
+ghost use Rattle.std.specs.Prelude.{unsigned_abs, if◌then◌else◌, slice_index_or};
 ghost use Rattle.wf_model.specs.Plans.{domain_of, nx, ny, nz, level_at, point_x, point_y};
 ghost use Rattle.wf_model.specs.Sound.{IsLevel};
 ghost use Rattle.wf_model.specs.Changes.{sight_at};
@@ -10,10 +11,10 @@ ghost use Rattle.wf_grid.specs.Levels.{AreLists, IsPlaceIn, grids_of};
 ghost use Rattle.wf_grid.specs.Reading.{IsReadable};
 ghost use Rattle.wf_grid.specs.Sized.{IsSize, AreSizes};
 
-use crate::extents::{Extents, Here, place, wrapped_place};
+use crate::extents::{Here, place, wrapped_place};
 use crate::sizes::{LevelSize, Sizes};
 use wf_eval::Reader;
-use wf_model::{List, Plan};
+use wf_model::{Extents, List, Plan};
 
 /// The numbers of all levels of a domain before a phase, the sizes of the levels, and the step.
 #[derive(Clone, Copy, Drop)]
@@ -60,7 +61,8 @@ fn size_at(at: &Surroundings, field: u32) -> LevelSize
     at.old.sizes.levels[field as usize]
 }
 
-/// The point that a read meets: places wrap in a periodic direction, and which directions are periodic is told.
+/// The point that a read meets: places wrap in a periodic direction, and which directions are
+/// periodic is told.
 fn met(
     at: &Surroundings,
     periodic_x: bool,
@@ -70,13 +72,18 @@ fn met(
     dk: i32,
     dj: i32,
 ) -> Here
-    requires readable { IsReadable at.now.old.now.plan.now at.now.old.now.number at.now.here.k at.now.here.j at.now.here.i (record { field = field; di = di; dk = dk; dj = dj }) }
+    requires readable { IsReadable at.now.old.now.plan.now at.now.old.now.number at.now.here.k
+        at.now.here.j at.now.here.i (record { field = field; di = di; dk = dk; dj = dj }) }
     requires x { periodic_x ≡ (domain_of at.now.old.now.plan.now at.now.old.now.number).periodic_x }
     requires y { periodic_y ≡ (domain_of at.now.old.now.plan.now at.now.old.now.number).periodic_y }
     ensures k { result.k ≡ level_at at.now.old.now.plan.now field at.now.here.k dk }
-    ensures j { result.j ≡ point_y at.now.old.now.plan.now at.now.old.now.number field (pos at.now.here.j +ℤ dj) }
-    ensures i { result.i ≡ point_x at.now.old.now.plan.now at.now.old.now.number field (pos at.now.here.i +ℤ di) }
-    ensures inside { IsPlaceIn (nz at.now.old.now.plan.now field) (ny at.now.old.now.plan.now at.now.old.now.number field) (nx at.now.old.now.plan.now at.now.old.now.number field) result.k result.j result.i }
+    ensures j { result.j
+        ≡ point_y at.now.old.now.plan.now at.now.old.now.number field (pos at.now.here.j +ℤ dj) }
+    ensures i { result.i
+        ≡ point_x at.now.old.now.plan.now at.now.old.now.number field (pos at.now.here.i +ℤ di) }
+    ensures inside { IsPlaceIn (nz at.now.old.now.plan.now field)
+        (ny at.now.old.now.plan.now at.now.old.now.number field)
+        (nx at.now.old.now.plan.now at.now.old.now.number field) result.k result.j result.i }
 {
     let size = size_at(at, field);
     let i = wrapped_place(periodic_x, size.extents.columns, at.here.i, di);
@@ -89,8 +96,10 @@ fn met(
 pub fn number_in(levels: &[List<i32>], field: u32, extents: Extents, here: Here) -> i32
     requires level { field < length levels.now }
     requires inside { IsPlaceIn extents.levels extents.rows extents.columns here.k here.j here.i }
-    requires size { length (slice_index_or levels.now field no_list) ≡ extents.levels * (extents.rows * extents.columns) }
-    ensures { result ≡ grid_from extents.rows extents.columns (slice_index_or levels.now field no_list) here.k here.j here.i }
+    requires size { length (slice_index_or levels.now field no_list)
+        ≡ extents.levels * (extents.rows * extents.columns) }
+    ensures { result ≡ grid_from extents.rows extents.columns
+        (slice_index_or levels.now field no_list) here.k here.j here.i }
 {
     let list = levels[field as usize].as_slice();
     list[place(extents, here, list.len())]
@@ -99,8 +108,11 @@ pub fn number_in(levels: &[List<i32>], field: u32, extents: Extents, here: Here)
 /// The number of a point of the domain.
 pub fn number_here(at: &Surroundings, field: u32, here: Here) -> i32
     requires level { IsLevel at.now.old.now.plan.now field }
-    requires inside { IsPlaceIn (nz at.now.old.now.plan.now field) (ny at.now.old.now.plan.now at.now.old.now.number field) (nx at.now.old.now.plan.now at.now.old.now.number field) here.k here.j here.i }
-    ensures { result ≡ grids_of at.now.old.now.plan.now at.now.old.now.number at.now.old.now.levels.now at.now.old.now.number field here.k here.j here.i }
+    requires inside { IsPlaceIn (nz at.now.old.now.plan.now field)
+        (ny at.now.old.now.plan.now at.now.old.now.number field)
+        (nx at.now.old.now.plan.now at.now.old.now.number field) here.k here.j here.i }
+    ensures { result ≡ grids_of at.now.old.now.plan.now at.now.old.now.number
+        at.now.old.now.levels.now at.now.old.now.number field here.k here.j here.i }
 {
     number_in(at.old.levels, field, size_at(at, field).extents, here)
 }
@@ -109,17 +121,22 @@ pub fn number_here(at: &Surroundings, field: u32, here: Here) -> i32
 #[cold]
 #[inline(never)]
 fn number_wrapped(at: &Surroundings, field: u32, di: i32, dk: i32, dj: i32) -> i32
-    requires { IsReadable at.now.old.now.plan.now at.now.old.now.number at.now.here.k at.now.here.j at.now.here.i (record { field = field; di = di; dk = dk; dj = dj }) }
-    ensures { result ≡ (sight_at at.now.old.now.plan.now (grids_of at.now.old.now.plan.now at.now.old.now.number at.now.old.now.levels.now) at.now.old.now.number at.now.old.now.step at.now.here.k at.now.here.j at.now.here.i).read field di dk dj }
+    requires { IsReadable at.now.old.now.plan.now at.now.old.now.number at.now.here.k at.now.here.j
+        at.now.here.i (record { field = field; di = di; dk = dk; dj = dj }) }
+    ensures { result ≡ (sight_at at.now.old.now.plan.now (grids_of at.now.old.now.plan.now
+        at.now.old.now.number at.now.old.now.levels.now) at.now.old.now.number at.now.old.now.step
+        at.now.here.k at.now.here.j at.now.here.i).read field di dk dj }
 {
     let (x, y) = (at.old.sizes.periodic_x, at.old.sizes.periodic_y);
     number_here(at, field, met(at, x, y, field, di, dk, dj))
 }
 
 impl Reader for Surroundings<'_> {
-    ghost sight = { λ s. sight_at s.old.now.plan.now (grids_of s.old.now.plan.now s.old.now.number s.old.now.levels.now) s.old.now.number s.old.now.step s.here.k s.here.j s.here.i };
+    ghost sight = { λ s. sight_at s.old.now.plan.now (grids_of s.old.now.plan.now s.old.now.number
+        s.old.now.levels.now) s.old.now.number s.old.now.step s.here.k s.here.j s.here.i };
 
-    ghost CanRead = { λ s r. IsReadable s.old.now.plan.now s.old.now.number s.here.k s.here.j s.here.i r };
+    ghost CanRead = { λ s r. IsReadable s.old.now.plan.now s.old.now.number s.here.k
+        s.here.j s.here.i r };
 
     fn i(&self) -> u32 {
         self.here.i

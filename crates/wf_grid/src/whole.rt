@@ -1,13 +1,16 @@
 //! A run on whole domains.
 
-ghost use Rattle.std.specs.Prelude.{◌≡◌, ℕ, ◌+◌, ◌-◌, ◌^◌, ◌<◌, ◌≤◌, All, IfOk, length, slice_index_or, slice_set};
+ghost use Rattle.std.specs.Prelude.{◌≡◌, ℕ, ◌+◌, ◌-◌, ◌^◌, ◌<◌, ◌≤◌, All, IfOk, length};
+ghost use Rattle.std.specs.Prelude.{slice_index_or, slice_set};
 ghost use Rattle.wf_model.specs.Plans.{begin_of};
 ghost use Rattle.wf_model.specs.Outcome.{outcome_of, no_list, no_lists};
-ghost use Rattle.wf_model.specs.Sound.{IsDomain, IsLevel, IsSoundPlan, IsRangedPlan, IsFittingInitial};
+ghost use Rattle.wf_model.specs.Sound.{IsDomain, IsLevel, IsSoundPlan, IsRangedPlan};
+ghost use Rattle.wf_model.specs.Sound.{IsFittingInitial};
 ghost use Rattle.wf_grid.specs.Levels.{AreLists};
 ghost use Rattle.wf_grid.specs.Stepped.{left_by_steps};
 ghost use Rattle.wf_grid.specs.Takeable.{CallsAreAccepted, IsTable, HasRoom};
-ghost use Rattle.wf_grid.specs.Held.{run_of, held_with, all_lists, point_at_end, grids_at_end, first_lists};
+ghost use Rattle.wf_grid.specs.Held.{run_of, held_with, all_lists, point_at_end, grids_at_end};
+ghost use Rattle.wf_grid.specs.Held.{first_lists};
 
 use crate::item::take_step;
 use std::alloc::{AllocError, Global};
@@ -56,18 +59,21 @@ fn settle_first<M: Meanings, F: Answering<M>>(
     requires items { length plan.now.items < 2 ^ 32 }
     requires room { HasRoom plan.now 1 scratch.old }
     requires steps { before + plan.now.steps < 2 ^ 64 }
-    ensures point { result ≡ (left_by_steps plan.now M.answer 1 before (slice_index_or grids.old 0 no_lists)).point }
+    ensures point { result
+        ≡ (left_by_steps plan.now M.answer 1 before (slice_index_or grids.old 0 no_lists)).point }
     ensures are { AreLists plan.now 1 (slice_index_or grids.new 0 no_lists) }
     ensures length { length grids.new ≡ length grids.old }
     ensures scratch { length scratch.new ≡ length scratch.old }
-    ensures numbers { grids.new ≡ slice_set grids.old 0 (left_by_steps plan.now M.answer 1 before (slice_index_or grids.old 0 no_lists)).lists }
+    ensures numbers { grids.new ≡ slice_set grids.old 0
+        (left_by_steps plan.now M.answer 1 before (slice_index_or grids.old 0 no_lists)).lists }
 {
     settle_levels(plan, before, grids[0].as_mut_slice(), scratch, hooks)
 }
 
 /// The length of the longest list.
 fn longest(levels: &[List<i32>]) -> usize
-    ensures { (f : ℕ) → f < length levels.now → length (slice_index_or levels.now f no_list) ≤ result }
+    ensures { (f : ℕ) → f < length levels.now
+        → length (slice_index_or levels.now f no_list) ≤ result }
 {
     let mut most = 0;
     for level in levels {
@@ -111,7 +117,8 @@ impl Model for Whole {
 }
 
 impl Whole {
-    /// Takes all memory that the run needs: beside the numbers one scratch, as long as the longest level.
+    /// Takes all memory that the run needs: beside the numbers one scratch, as long as the
+    /// longest level.
     ///
     /// Only one domain runs for now.
     pub fn new(alloc: Global, plan: Plan, initial: Initial) -> Result<Whole, AllocError>
@@ -131,14 +138,16 @@ impl Whole {
         })
     }
 
-    /// Steps the run to its end, or to its first overflow, which it gives: the numbers are then those before that item.
+    /// Steps the run to its end, or to its first overflow, which it gives: the numbers are then
+    /// those before that item.
     ///
-    /// It begins with the numbers that are held, and with the first step after the domain's begin. Stored functions answer
-    /// as the table does. It takes no memory.
+    /// It begins with the numbers that are held, and with the first step after the domain's begin.
+    /// Stored functions answer as the table does. It takes no memory.
     pub fn settle<M: Meanings, F: Answering<M>>(&mut self, hooks: &HookTable<M, F>) -> Option<Point>
         requires { All (CallsAreAccepted M.accepts) self.old.plan.items }
         ensures point { result ≡ point_at_end (outcome_of (run_of self.old M.answer)) }
-        ensures numbers { self.new ≡ held_with self.old (all_lists self.old.plan (grids_at_end (run_of self.old M.answer) (outcome_of (run_of self.old M.answer)))) }
+        ensures numbers { self.new ≡ held_with self.old (all_lists self.old.plan
+            (grids_at_end (run_of self.old M.answer) (outcome_of (run_of self.old M.answer)))) }
     {
         let before = steps_before(&self.initial);
         settle_first(
@@ -150,11 +159,13 @@ impl Whole {
         )
     }
 
-    /// The numbers of a level of a domain, in order k, j, i with i fastest. Domains count from 1, levels from 0.
+    /// The numbers of a level of a domain, in order k, j, i with i fastest. Domains count from 1,
+    /// levels from 0.
     pub fn grid(&self, domain: u32, field: u32) -> &[i32]
         requires domain { IsDomain self.now.plan domain }
         requires level { IsLevel self.now.plan field }
-        ensures { result.now ≡ slice_index_or (slice_index_or self.now.initial.grids (domain - 1) no_lists) field no_list }
+        ensures { result.now ≡ slice_index_or
+            (slice_index_or self.now.initial.grids (domain - 1) no_lists) field no_list }
     {
         self.initial.grids.as_slice()[domain as usize - 1].as_slice()[field as usize].as_slice()
     }

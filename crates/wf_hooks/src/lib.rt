@@ -2,7 +2,6 @@
 #![tactic(auto)]
 
 mod answering;
-mod copies;
 mod error;
 mod meanings;
 mod repeated;

@@ -3,7 +3,6 @@
 ghost use Rattle.std.specs.Prelude.{◌≡◌, IfOk, IfErr, None};
 
 use crate::answering::Answering;
-use crate::copies::{copy_hooks, copy_name};
 use crate::error::HookError;
 use crate::meanings::Meanings;
 use crate::repeated::repeated;
@@ -11,8 +10,8 @@ use std::alloc::Global;
 use std::marker::{Model, PhantomData};
 use wf_model::{HookName, List};
 
-/// Stored functions: their names, which contracts see, and a function that answers what M says of each list that M
-/// accepts.
+/// Stored functions: their names, which contracts see, and a function that answers what M says of
+/// each list that M accepts.
 #[derive(Drop)]
 pub struct HookTable<M: Meanings, F: Answering<M>> {
     names: List<HookName>,
@@ -34,7 +33,8 @@ impl<M: Meanings, F: Answering<M>> Model for HookTable<M, F> {
 impl<M: Meanings, F: Answering<M>> HookTable<M, F> {
     ghost use Rattle.wf_hooks.specs.Hooks.{repeated_name, TellsRepeated};
 
-    /// The table of these names. It is refused exactly where a name stands twice, or memory runs out.
+    /// The table of these names. It is refused exactly where a name stands twice, or memory runs
+    /// out.
     pub fn new(alloc: Global, names: &[HookName], function: F) -> Result<HookTable<M, F>, HookError>
         requires { F.keeps function }
         ensures table { IfOk result (λ t. t ≡ names.now) }
@@ -42,11 +42,11 @@ impl<M: Meanings, F: Answering<M>> HookTable<M, F> {
         ensures refused { IfErr result (TellsRepeated names.now) }
     {
         if let Some(name) = repeated(names) {
-            let name = copy_name(alloc, name)?;
+            let name = name.copy(alloc)?;
             return Err(HookError::Repeated { name });
         }
         Ok(HookTable {
-            names: List::from_vec(copy_hooks(alloc, names)?),
+            names: List::from_vec(HookName::copy_all(alloc, names)?),
             function,
             of: PhantomData,
         })

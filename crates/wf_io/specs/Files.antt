@@ -1,5 +1,7 @@
 -- The files of a store: what each name holds.
-use Rattle.std.specs.Prelude.{ℕ, ◌+◌, ◌-◌, ◌^◌, ◌<◌, ◌≤◌, ◌==◌, Bool, ◌&&◌, ◌||◌, nat_lt, nat_le, List, [], ◌++◌, length, take, drop, Option, Some, None, Result, Ok, Err, unwrap_or, if◌then◌else◌, IsErrOf}
+use Rattle.std.specs.Prelude.{ℕ, ◌+◌, ◌-◌, ◌^◌, ◌<◌, ◌≤◌, ◌==◌, Bool, ◌&&◌, ◌||◌, nat_lt, nat_le}
+use Rattle.std.specs.Prelude.{List, [], ◌++◌, length, take, drop, Option, Some, None, Result, Ok}
+use Rattle.std.specs.Prelude.{Err, unwrap_or, if◌then◌else◌, IsErrOf}
 use Rattle.std.specs.Str.{bytes_eq}
 use Rattle.std.specs.List.{list_all}
 use Rattle.std.specs.Char.{is_ascii_alphanumeric}
@@ -25,7 +27,8 @@ patched old at bytes = take at old ++ bytes ++ drop (at + length bytes) old
 -- a name that a store takes: 1 to 128 letters, digits, `_`, `-`, `.` and `:`
 abbrev pub is_store_name : List ℕ → Bool
 is_store_name word = nat_lt 0 (length word) && nat_le (length word) 128
-    && list_all (λ b. (is_ascii_alphanumeric b || (b == 95)) || (b == 45) || (b == 46) || (b == 58)) word
+    && list_all (λ b. (is_ascii_alphanumeric b || (b == 95)) || (b == 45) || (b == 46)
+    || (b == 58)) word
 
 -- what is told stays told, and what is not told is never told; and where it is told, it changes so
 abbrev pub Told : {X : Type 0} → Option X → Option X → (X → X → Type 0) → Type 0

@@ -11,7 +11,8 @@ pub record SinkState : Type 0 where
   pub faults : ℕ
 
 -- a put has the next number, its fault is counted, and the list of failing puts stays
-pub record IsNumberedPut {X : Type 0} (old new : SinkState) (result : Result X IoError) : Type 0 where
+pub record IsNumberedPut {X : Type 0} (old new : SinkState)
+    (result : Result X IoError) : Type 0 where
   pub number : new.calls ≡ one_more old.calls
   pub count : new.faults ≡ faults_after result old.faults
   pub listed : new.failing ≡ old.failing

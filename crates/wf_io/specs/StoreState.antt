@@ -1,5 +1,6 @@
 -- What a store in memory holds.
-use Rattle.std.specs.Prelude.{◌≡◌, ◌==◌, ℕ, ◌<◌, true, false, length, slice_index_or, List, [], ◌∷◌, Option, Some, None, Result, if◌then◌else◌, find, option_map}
+use Rattle.std.specs.Prelude.{◌≡◌, ◌==◌, ℕ, ◌<◌, true, false, length, slice_index_or, List, [], ◌∷◌}
+use Rattle.std.specs.Prelude.{Option, Some, None, Result, if◌then◌else◌, find, option_map}
 use Rattle.std.specs.Str.{bytes_eq}
 use Rattle.wf_io.specs.Files.{Files}
 use Rattle.wf_io.specs.Counts.{one_more, faults_after}
@@ -11,8 +12,8 @@ pub record FileState : Type 0 where
   pub name : List ℕ
   pub bytes : List ℕ
 
--- the files, the calls that are to fail, and how many calls and faults there were; `failed` is the name of the last
--- call where it answered `Fault`, and else no text
+-- the files, the calls that are to fail, and how many calls and faults there were; `failed` is the
+-- name of the last call where it answered `Fault`, and else no text
 pub record StoreState : Type 0 where
   pub files : List FileState
   pub failing : List FailingCall
@@ -27,7 +28,8 @@ files_of (f ∷ fs) q = if bytes_eq q f.name then Some f.bytes else files_of fs 
 
 -- no file before place p has the name
 abbrev pub NoneBefore : List FileState → List ℕ → ℕ → Type 0
-NoneBefore fs name p = (k : ℕ) (d : FileState) → k < p → bytes_eq name (slice_index_or fs k d).name ≡ false
+NoneBefore fs name p =
+    (k : ℕ) (d : FileState) → k < p → bytes_eq name (slice_index_or fs k d).name ≡ false
 
 -- place p has the first file of that name
 pub record IsPlace (fs : List FileState) (name : List ℕ) (p : ℕ) : Type 0 where

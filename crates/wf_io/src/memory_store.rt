@@ -1,7 +1,9 @@
 //! A store in memory, whose calls can be made to fail.
 
-ghost use Rattle.std.specs.Prelude.{◌≡◌, ◌≢◌, ◌↔◌, ◌+◌, ◌≤◌, [], ◌∷◌, ◌++◌, length, take, Some, IsSome, IsErrOf, OnOk, OnErr, IfOk, IfSome, option_map, IsTrue};
-ghost use Rattle.wf_io.specs.Files.{with_file, bytes_at, patched, is_store_name, Counted, Rose, failed_name};
+ghost use Rattle.std.specs.Prelude.{◌≡◌, ◌≢◌, ◌↔◌, ◌+◌, ◌≤◌, [], ◌∷◌, ◌++◌, length, take, Some};
+ghost use Rattle.std.specs.Prelude.{IsSome, IsErrOf, OnOk, OnErr, IfOk, IfSome, option_map, IsTrue};
+ghost use Rattle.wf_io.specs.Files.{with_file, bytes_at, patched, is_store_name, Counted, Rose};
+ghost use Rattle.wf_io.specs.Files.{failed_name};
 ghost use Rattle.wf_io.specs.Counts.{one_more};
 ghost use Rattle.wf_io.specs.StoreState.{files_of, kept_of, kept_of_next, IsNumbered};
 
@@ -123,7 +125,8 @@ impl MemStore {
     // Counts a call, and says how many bytes it keeps if it is to fail.
     fn next_call(&mut self) -> Option<u64>
         ensures kept { result ≡ kept_of_next self.old }
-        ensures state { self.new ≡ record self.old { calls = one_more self.old.calls; failed = [] } }
+        ensures state { self.new
+            ≡ record self.old { calls = one_more self.old.calls; failed = [] } }
     {
         self.calls = self.calls.saturating_add(1);
         self.failed = FileName::none();
@@ -221,7 +224,8 @@ impl Store for MemStore {
     fn write_at(&mut self, name: &str, at: u64, bytes: &[u8]) -> Result<(), IoError>
         requires name { IsTrue (is_store_name name.now) }
         requires there { IsSome (files_of self.old.files name.now) }
-        requires within { at + length bytes.now ≤ length (bytes_at (files_of self.old.files) name.now) }
+        requires within { at + length bytes.now
+            ≤ length (bytes_at (files_of self.old.files) name.now) }
         ensures ok { OnOk result (files_of self.new.files
             ≡ with_file (files_of self.old.files) name.now
             (patched (bytes_at (files_of self.old.files) name.now) at bytes.now)) }

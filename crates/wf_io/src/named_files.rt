@@ -1,6 +1,7 @@
 //! The files of a store in memory.
 
-ghost use Rattle.std.specs.Prelude.{◌≡◌, ◌+◌, ◌≤◌, [], ◌++◌, length, IsSome, MatchOption, OnOk, OnErr, IfOk, option_map};
+ghost use Rattle.std.specs.Prelude.{◌≡◌, ◌+◌, ◌≤◌, [], ◌++◌, length, IsSome, MatchOption, OnOk};
+ghost use Rattle.std.specs.Prelude.{OnErr, IfOk, option_map};
 ghost use Rattle.std.specs.Str.{bytes_eq};
 ghost use Rattle.wf_io.specs.Files.{with_file, bytes_at, patched};
 ghost use Rattle.wf_io.specs.StoreState.{files_of, IsPlace};

@@ -1,7 +1,9 @@
 //! A store of named files.
 
-ghost use Rattle.std.specs.Prelude.{◌≡◌, ◌⊎◌, ℕ, ◌+◌, ◌<◌, ◌≤◌, List, [], ◌++◌, length, Option, option_map, OnOk, OnErr, IfOk, IsSome, IsTrue};
-ghost use Rattle.wf_io.specs.Files.{Files, with_file, bytes_at, patched, is_store_name, Told, Counted, failed_name};
+ghost use Rattle.std.specs.Prelude.{◌≡◌, ◌⊎◌, ℕ, ◌+◌, ◌<◌, ◌≤◌, List, [], ◌++◌, length, Option};
+ghost use Rattle.std.specs.Prelude.{option_map, OnOk, OnErr, IfOk, IsSome, IsTrue};
+ghost use Rattle.wf_io.specs.Files.{Files, with_file, bytes_at, patched, is_store_name, Told};
+ghost use Rattle.wf_io.specs.Files.{Counted, failed_name};
 
 use std::alloc::{AllocError, Global};
 use std::fmt;

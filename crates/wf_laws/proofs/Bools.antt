@@ -1,6 +1,6 @@
 -- Truth values: their parts, and the tests of equality and of choice.
 use Rattle.std.proofs.Common.{◌≡◌, ◌⊎◌, inl, inr, ⊎_elim, ℕ, ◌<◌, ◌≤◌, Bool, true, false, refl, sym, arith}
-use Rattle.std.specs.Prelude.{◌&&◌, ◌||◌, ◌==◌, if◌then◌else◌}
+use Rattle.std.specs.Prelude.{◌&&◌, ◌||◌, ◌==◌, nat_lt, nat_le, if◌then◌else◌}
 
 -- a truth value is true or false
 pub split_bool : (b : Bool) → (b ≡ true) ⊎ (b ≡ false)
@@ -52,6 +52,19 @@ if_true b x y p = λ n. if p n then x else y
 -- the choice where it does not
 pub if_false : {A : Type 0} (b : Bool) (x y : A) → b ≡ false → (if b then x else y) ≡ y
 if_false b x y p = λ n. if p n then x else y
+
+-- what the tests of less and of at most say, and back
+pub less_of : (m n : ℕ) → nat_lt m n ≡ true → m < n
+less_of m n h = grind arith
+
+pub less_test : (m n : ℕ) → m < n → nat_lt m n ≡ true
+less_test m n h = grind arith
+
+pub most_of : (m n : ℕ) → nat_le m n ≡ true → m ≤ n
+most_of m n h = grind arith
+
+pub most_test : (m n : ℕ) → m ≤ n → nat_le m n ≡ true
+most_test m n h = grind arith
 
 -- numbers that the test finds equal
 pub equal_of : (m n : ℕ) → (m == n) ≡ true → m ≡ n

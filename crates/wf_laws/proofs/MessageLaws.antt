@@ -1,5 +1,5 @@
 -- The laws of messages: each cell comes once, from its owner, with its numbers.
-use Rattle.std.proofs.Common.{◌≡◌, ℕ, ◌*◌, ◌<◌, true, List, [], ◌∷◌, inl, inr, ⊎_elim, refl, sym, ap, subst, ◌∙◌, arith, length}
+use Rattle.std.proofs.Common.{◌≡◌, ℕ, ◌*◌, ◌<◌, true, List, [], ⊎_elim, refl, sym, ap, subst, ◌∙◌, arith, length}
 use Rattle.std.specs.Prelude.{pos, ◌==◌, map, if◌then◌else◌, zip}
 use Rattle.wf_model.specs.declared.layout.Layout.{Layout}
 use Rattle.wf_model.specs.declared.plan.Plan.{Plan}
@@ -18,7 +18,7 @@ use Rattle.wf_model.specs.Agreement.{IsAccepted, IsUpToOverflow, IsPatch, IsLeve
 use Rattle.wf_laws.specs.Messages.{Carries, FetchedCellsComeOnce, MessagesCarryFetchedCells, asked_points, AskedPointsComeOnce, ReceivedAreTheMessages, SendersSendTheNumbers, MessagesCarryTheGridsNumbers}
 use Rattle.wf_laws.specs.Ownership.{IsTheOne}
 use Rattle.wf_laws.proofs.Bools.{equal_of, equal_test, split_bool}
-use Rattle.wf_laws.proofs.Members.{In, In-filter, In-filter_out, In-Contains, Contains-In, In-range_out, flat_map-same}
+use Rattle.wf_laws.proofs.Members.{In, In-filter, In-filter_out, In-Contains, Contains-In, In-range_out, flat_map-same, map-same}
 use Rattle.wf_laws.proofs.Places.{IsRoom, room_of, back_x, back_y, place-domain}
 use Rattle.wf_laws.proofs.Cells.{IsPointCell, fetched_point}
 use Rattle.wf_laws.proofs.Senders.{IsSent, owner_is, owner_there, among_owner, carried_sent}
@@ -94,11 +94,6 @@ asked_once plan layout e to c laid is level k inside h =
     owner_below : (room : IsRoom plan (split_of layout) (sender_of plan e e.act)) → cell_owner plan (split_of layout) (sender_of plan e e.act) c < layout.nproc_x * layout.nproc_y
     owner_below room = (owner_there plan (split_of layout) (sender_of plan e e.act) room c (place-domain plan (split_of layout) (sender_of plan e e.act) room c.field c.j c.i inside)).0
 
--- lists whose numbers agree
-map-In : {X Y : Type 0} (f g : X → Y) (xs : List X) → ((x : X) → In x xs → f x ≡ g x) → map f xs ≡ map g xs
-map-In f g [] h = refl
-map-In f g (x ∷ xs) h = λ n. h x (inl refl) n ∷ map-In f g xs (λ y t. h y (inr t)) n
-
 module _ (r : RunData) (layout : Layout) (a : IsAccepted r layout) (n : ℕ) (within : n < length (script r)) (from to : ℕ) (hq : IsPatch layout from) where
   -- the entry
   abbrev e : Entry
@@ -131,14 +126,14 @@ module _ (r : RunData) (layout : Layout) (a : IsAccepted r layout) (n : ℕ) (wi
 
   -- so a message has the grids' numbers up to the first overflow
   grids_sent : IsUpToOverflow r n → IsDomain r.plan d → map (memory_point r.plan d (memory_at r layout n d from)) cells ≡ map (grid_cell r.plan d (grids_at r n)) cells
-  grids_sent up is = map-In (memory_point r.plan d (memory_at r layout n d from)) (grid_cell r.plan d (grids_at r n)) cells (λ c h. sent_grid is up c (sent_cell is c h))
+  grids_sent up is = map-same (memory_point r.plan d (memory_at r layout n d from)) (grid_cell r.plan d (grids_at r n)) cells (λ c h. sent_grid is up c (sent_cell is c h))
 
   -- and the message's numbers at each place
   numbers_sent : IsDomain r.plan d → map (memory_point r.plan d (memory_at r layout n d from)) cells ≡ map (grid_cell r.plan d (numbers_at r layout n)) cells
   unfolding numbers_at
   numbers_sent is =
       ⊎_elim
-      (λ past. map-In (memory_point r.plan d (memory_at r layout n d from)) (grid_cell r.plan d (grids_in_patches r layout n)) cells (λ c h. sent_patch is c (sent_cell is c h))
+      (λ past. map-same (memory_point r.plan d (memory_at r layout n d from)) (grid_cell r.plan d (grids_in_patches r layout n)) cells (λ c h. sent_patch is c (sent_cell is c h))
       ∙ ap (λ b. map (grid_cell r.plan d (if b then grids_in_patches r layout n else grids_at r n)) cells) (sym past))
       (λ past. grids_sent (record { within = omega (arith, within); before = past }) is
       ∙ ap (λ b. map (grid_cell r.plan d (if b then grids_in_patches r layout n else grids_at r n)) cells) (sym past))

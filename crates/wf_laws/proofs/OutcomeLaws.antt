@@ -1,10 +1,11 @@
 -- The outcome item by item, and the frames that a run writes.
-use Rattle.std.proofs.Common.{◌≡◌, ℕ, ◌<◌, true, sym, ap, subst, arith}
+use Rattle.std.proofs.Common.{◌≡◌, sym, ap, subst}
 use Rattle.std.specs.List.{Contains}
 use Rattle.std.specs.Prelude.{List, filter, nat_lt}
 use Rattle.wf_model.specs.declared.frame.Frame.{Frame}
 use Rattle.wf_model.specs.Frames.{frames_of, frames_written, up_to_overflow}
 use Rattle.wf_laws.specs.Outcomes.{OutcomeGoesItemByItem, OutcomeOfItemsAfterOthers, AllFramesAreWritten, FramesAreWrittenBeforeTheOverflow}
+use Rattle.wf_laws.proofs.Bools.{less_of, less_test}
 use Rattle.wf_laws.proofs.Members.{In-filter, In-filter_out, In-Contains, Contains-In}
 use Rattle.wf_laws.proofs.Runs.{outcome_from-next, outcome_from-stop, outcome_from-append, frames_written-Ok}
 
@@ -20,20 +21,12 @@ after_others r n es fs g h p = outcome_from-append r n es fs g h p
 pub all_written : AllFramesAreWritten
 all_written r g p = frames_written-Ok r g p
 
--- the test of less
-before_is : (m n : ℕ) → nat_lt m n ≡ true → m < n
-before_is m n h = grind arith
-
--- and back
-is_before : (m n : ℕ) → m < n → nat_lt m n ≡ true
-is_before m n h = grind arith
-
 -- else those before the first overflow
 pub written_before : FramesAreWrittenBeforeTheOverflow
 written_before r o f p =
     let written : frames_written r ≡ filter (λ (x : Frame). nat_lt x.place o.place) (frames_of r) = ap (λ (q : _). up_to_overflow q (frames_of r)) p in (
       (λ h. let t = In-filter_out (λ (x : Frame). nat_lt x.place o.place) f (frames_of r) (Contains-In f (filter (λ (x : Frame). nat_lt x.place o.place) (frames_of r)) (subst (λ (fs : List Frame). Contains fs f) written h)) in
-          (In-Contains f (frames_of r) t.0, before_is f.place o.place t.1)),
+          (In-Contains f (frames_of r) t.0, less_of f.place o.place t.1)),
       (λ h l. subst (λ (fs : List Frame). Contains fs f) (sym written)
-          (In-Contains f (filter (λ (x : Frame). nat_lt x.place o.place) (frames_of r)) (In-filter (λ (x : Frame). nat_lt x.place o.place) f (frames_of r) (Contains-In f (frames_of r) h) (is_before f.place o.place l)))),
+          (In-Contains f (filter (λ (x : Frame). nat_lt x.place o.place) (frames_of r)) (In-filter (λ (x : Frame). nat_lt x.place o.place) f (frames_of r) (Contains-In f (frames_of r) h) (less_test f.place o.place l)))),
     )

@@ -57,9 +57,9 @@ module _ (plan : Plan) (a : Asked) (sound : IsSoundPlan plan) (is : IsAsked plan
   unfolding is_read_covered
   patch_passes p hp h = In-list_all (is_patch_covered plan a) p (patches_of (fine plan a.domain)) h (In-range p 0 (finest.in_x * finest.in_y) (omega arith) (omega (arith, hp)))
 
-  -- a point that the test goes over passes, and one that no patch computes passes anyway
-  cell_passes : (p k : ℕ) (j i : ℤ) → p < finest.in_x * finest.in_y → is_read_covered plan a ≡ true → is_cell_covered plan a p k j i ≡ true
-  cell_passes p k j i hp h =
+  -- where a patch passes, a point that its test goes over is covered, and one that it does not compute is anyway
+  pub point_passes : (p : ℕ) → is_patch_covered plan a p ≡ true → (k : ℕ) (j i : ℤ) → is_cell_covered plan a p k j i ≡ true
+  point_passes p h k j i =
       ⊎_elim
       (λ c.
       let box = computes-in plan (fine plan a.domain) a.domain p a.phase k j i c in
@@ -68,14 +68,14 @@ module _ (plan : Plan) (a : Asked) (sound : IsSoundPlan plan) (is : IsAsked plan
       In-list_all (λ x. is_cell_covered plan a p k j x) i (span_list (computed_box plan a p).x)
       (In-list_all (λ y. list_all (λ x. is_cell_covered plan a p k y x) (span_list (computed_box plan a p).x)) j (span_list (computed_box plan a p).y)
       (In-list_all (λ m. list_all (λ y. list_all (λ x. is_cell_covered plan a p m y x) (span_list (computed_box plan a p).x)) (span_list (computed_box plan a p).y)) k (up_to (nz plan a.phase.writes))
-      (patch_passes p hp h) (level_there p k j i c)) (In-span (computed_box plan a p).y j in_y)) (In-span (computed_box plan a p).x i in_x))
+      h (level_there p k j i c)) (In-span (computed_box plan a p).y j in_y)) (In-span (computed_box plan a p).x i in_x))
       (λ c. or_left (not (computes plan (fine plan a.domain) a.domain p a.phase k j i)) _ (ap not c))
       (split_bool (computes plan (fine plan a.domain) a.domain p a.phase k j i))
 
   -- the test leads to the rule
   test_rule : is_read_covered plan a ≡ true → IsReadCovered plan a
   unfolding IsReadCovered
-  test_rule h p k j i hp = cell_passes p k j i hp h
+  test_rule h p k j i hp = point_passes p (patch_passes p hp h) k j i
 
   -- and the rule to the test
   rule_test : IsReadCovered plan a → is_read_covered plan a ≡ true

@@ -13,7 +13,8 @@ use Rattle.wf_model.specs.PatchEffect.{Memory}
 use Rattle.wf_model.specs.Sound.{IsDomain}
 use Rattle.wf_model.specs.Marks.{all_fresh, marks_after}
 use Rattle.wf_model.specs.Agreement.{IsAccepted, IsUpToOverflow, IsPatch, memory_at}
-use Rattle.wf_laws.specs.Stops.{named_at, domain_at, change_at, NamedPointsOverflow, OwnersNameTheLeastPoint, same_spot, is_named, LeastNamedIsTheOverflow, NoPatchNamesAPointBefore, OutcomeIsTheLeastNamed}
+use Rattle.wf_model.specs.LeastStop.{domain_at, same_spot, is_named}
+use Rattle.wf_laws.specs.Stops.{named_at, change_at, NamedPointsOverflow, OwnersNameTheLeastPoint, LeastNamedIsTheOverflow, NoPatchNamesAPointBefore, OutcomeIsTheLeastNamed}
 use Rattle.wf_laws.proofs.Bools.{equal_of, same_number, and_left, and_right, differ}
 use Rattle.wf_laws.proofs.Members.{In, In-range, In-range_out, In-list_any, list_any-In, find-Some, find-None, In-Contains, list_any-none}
 use Rattle.wf_laws.proofs.Places.{IsRoom, room_of, owner_owns}

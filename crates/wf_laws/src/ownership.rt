@@ -1,6 +1,7 @@
 //! Blocks, patches and owners.
 
-ghost use Rattle.wf_laws.specs.Ownership.{BlocksAreDisjointAndComplete, EachPointHasOneOwner, OwnCellsArePoints};
+ghost use Rattle.wf_laws.specs.Ownership.{BlocksAreDisjointAndComplete, EachPointHasOneOwner};
+ghost use Rattle.wf_laws.specs.Ownership.{OwnCellsArePoints};
 
 /// Each place of a length lies in one of its blocks and in no other.
 #[tactic(auto, using(crate::proofs::Owners::disjoint_complete))]

@@ -1,6 +1,7 @@
 //! Values of expressions, and lists of grids.
 
-ghost use Rattle.wf_laws.specs.Values.{ValueDependsOnItsReads, ListHasEachPointOnce, ListHasPointsInOrder, GridOfTheListIsTheGrid};
+ghost use Rattle.wf_laws.specs.Values.{ValueDependsOnItsReads, ListHasEachPointOnce};
+ghost use Rattle.wf_laws.specs.Values.{ListHasPointsInOrder, GridOfTheListIsTheGrid};
 
 /// An expression's value depends on the point, the step and the numbers at its reads alone.
 #[tactic(auto, using(crate::proofs::ValueLaws::depends_on_reads))]

@@ -1,4 +1,5 @@
--- Where patches agree with grids: how far a run comes, and which cells of a patch hold the grids' numbers.
+-- Where patches agree with grids: how far a run comes, and which cells of a patch hold the
+-- grids' numbers.
 use Rattle.std.specs.Prelude.{◌≡◌, ℕ, ◌*◌, ◌<◌, ◌≤◌, length, ℤ, pos, IsTrue, IsFalse}
 use Rattle.wf_model.specs.declared.layout.Layout.{Layout}
 use Rattle.wf_model.specs.declared.plan.Plan.{Plan}
@@ -53,19 +54,23 @@ cell_number m c = m c.field c.k c.j c.i
 
 -- the cell holds the grids' number of the point that it stands for, before a place
 abbrev pub HoldsPoint : RunData → Layout → ℕ → ℕ → ℕ → Cell → Type 0
-HoldsPoint r layout n d p c = cell_number (memory_at r layout n d p) c ≡ grid_cell r.plan d (grids_at r n) c
+HoldsPoint r layout n d p c =
+    cell_number (memory_at r layout n d p) c ≡ grid_cell r.plan d (grids_at r n) c
 
--- which cells that are not own are fresh before a place, over all that the domain has done since its start
+-- which cells that are not own are fresh before a place, over all that the domain has done since
+-- its start
 abbrev pub marks_at : RunData → Split → ℕ → ℕ → ℕ → Marks
 marks_at r split n d p = marks_after r.plan split d p (turns_at r d n) all_fresh
 
 -- the cell is own, or marked fresh, before a place
 abbrev pub IsFreshAt : RunData → Split → ℕ → ℕ → ℕ → Cell → Type 0
-IsFreshAt r split n d p c = IsTrue (is_fresh r.plan split d p (marks_at r split n d p) c.field c.k c.j c.i)
+IsFreshAt r split n d p c =
+    IsTrue (is_fresh r.plan split d p (marks_at r split n d p) c.field c.k c.j c.i)
 
 -- the point of a domain that a cell stands for
 abbrev pub point_of_cell : Plan → ℕ → Cell → Spot
-point_of_cell plan d c = record { field = c.field; k = c.k; j = point_y plan d c.field c.j; i = point_x plan d c.field c.i }
+point_of_cell plan d c = record
+    { field = c.field; k = c.k; j = point_y plan d c.field c.j; i = point_x plan d c.field c.i }
 
 -- the cell of a point itself
 abbrev pub cell_of_point : Spot → Cell

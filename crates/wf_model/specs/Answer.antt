@@ -1,5 +1,6 @@
 -- What a command answers: its status, what it prints, and its calls on the store.
-use Rattle.std.specs.Prelude.{ℕ, Bool, List, [], ◌∷◌, ◌++◌, flat_map, fold, sum_by, pos, ◌+ℤ◌, if◌then◌else◌, Result, Ok, Err, codes, decimal}
+use Rattle.std.specs.Prelude.{ℕ, Bool, List, [], ◌∷◌, ◌++◌, flat_map, fold, sum_by, pos, ◌+ℤ◌}
+use Rattle.std.specs.Prelude.{if◌then◌else◌, Result, Ok, Err, codes, decimal}
 use Rattle.wf_model.specs.declared.plan.Plan.{Plan}
 use Rattle.wf_model.specs.declared.plan.Field.{Field}
 use Rattle.wf_model.specs.declared.plan.Item.{Item}
@@ -34,13 +35,16 @@ pub record Answer : Type 0 where
 -- ---- lines
 
 abbrev pub summary_line : Summary → List ℕ
-summary_line s = line (codes "files" ∷ decimal s.files ∷ codes "records" ∷ decimal s.records ∷ codes "bytes" ∷ decimal s.bytes ∷ codes "sum" ∷ decimal s.sum ∷ [])
+summary_line s = line (codes "files" ∷ decimal s.files ∷ codes "records" ∷ decimal s.records
+    ∷ codes "bytes" ∷ decimal s.bytes ∷ codes "sum" ∷ decimal s.sum ∷ [])
 
 abbrev pub patch_line : MemoryLine → List ℕ
-patch_line m = line (codes "memory" ∷ decimal m.domain ∷ decimal m.patch ∷ decimal m.cells ∷ whole m.sum ∷ [])
+patch_line m =
+    line (codes "memory" ∷ decimal m.domain ∷ decimal m.patch ∷ decimal m.cells ∷ whole m.sum ∷ [])
 
 abbrev pub total_line : List MemoryLine → List ℕ
-total_line ms = line (codes "memory" ∷ decimal (sum_by (λ m. m.cells) ms) ∷ whole (fold (λ a m. a +ℤ m.sum) (pos 0) ms) ∷ [])
+total_line ms = line (codes "memory" ∷ decimal (sum_by (λ m. m.cells) ms)
+    ∷ whole (fold (λ a m. a +ℤ m.sum) (pos 0) ms) ∷ [])
 
 abbrev pub phase_name : Item → List ℕ
 phase_name (item.Halo parts) = []
@@ -56,7 +60,8 @@ what_name plan what.Feedback = codes "feedback"
 
 abbrev pub overflow_line : Plan → Point → List ℕ
 overflow_line plan p =
-    line (codes "overflow" ∷ decimal p.domain ∷ decimal p.step ∷ what_name plan p.what ∷ (field_of plan p.field).name
+    line (codes "overflow" ∷ decimal p.domain ∷ decimal p.step ∷ what_name plan p.what
+    ∷ (field_of plan p.field).name
     ∷ decimal p.k ∷ decimal p.j ∷ decimal p.i ∷ [])
 
 -- ---- a run that was read
@@ -75,8 +80,13 @@ memory_text by_patch ms = flat_map patch_line ms
 
 -- a run that ends, or one that overflows
 abbrev pub ended_as : RunData → Layout → Memories → Result Grids Overflow → Answer
-ended_as r layout shown (Ok g) = record { status = 0; text = summary_line (summary_of r) ++ memory_text shown (memory_report r layout); calls = writes_of r }
-ended_as r layout shown (Err o) = record { status = 8; text = overflow_line r.plan o.point; calls = writes_of r }
+ended_as r layout shown (Ok g) = record {
+  status = 0;
+  text = summary_line (summary_of r) ++ memory_text shown (memory_report r layout);
+  calls = writes_of r;
+}
+ended_as r layout shown (Err o) =
+    record { status = 8; text = overflow_line r.plan o.point; calls = writes_of r }
 
 unfoldable pub run_answer : RunData → Layout → Memories → Answer
 run_answer r layout shown = ended_as r layout shown (outcome_of r)
@@ -101,7 +111,8 @@ pub data Command : Type 0 where
   gen : ℕ → Command
   threads : ℕ → List (List ℕ × List ℕ) → Bool → Command
 
--- what stands outside the definitions: how the words are read, and the stored functions by name and meaning
+-- what stands outside the definitions: how the words are read, and the stored functions by name
+-- and meaning
 pub record Outside : Type 0 where
   pub command : List (List ℕ) → Result Command Refusal
   pub hooks : List HookName
@@ -112,7 +123,8 @@ how each = if each then by_patch else in_total
 
 -- what `check` prints
 abbrev pub accepted_text : Plan → List ℕ
-accepted_text plan = flat_map (λ (f : Field). line (codes "field" ∷ f.name ∷ [])) plan.fields ++ line (codes "accepted" ∷ [])
+accepted_text plan = flat_map (λ (f : Field). line (codes "field" ∷ f.name ∷ [])) plan.fields
+    ++ line (codes "accepted" ∷ [])
 
 module _ (outside : Outside) where
   abbrev pub run_of : Plan → Initial → RunData
@@ -132,7 +144,8 @@ module _ (outside : Outside) where
   -- what a command answers
   abbrev pub command_answer : Files → Command → Answer
   command_answer files (demo x y steps px each) =
-      after (told_as layout_refusal (demo_layout x px)) λ layout. run_answer (run_of (demo_plan x y steps) (demo_initial x y)) layout (how each)
+      after (told_as layout_refusal (demo_layout x px)) λ layout.
+      run_answer (run_of (demo_plan x y steps) (demo_initial x y)) layout (how each)
   command_answer files (serial defines each) = spread_run files defines 1 (how each)
   command_answer files (plain defines) =
       after (plan_read outside.hooks files defines) λ read.

@@ -1,5 +1,6 @@
 -- Numbers, texts and headers in the netCDF classic format, as this project writes them.
-use Rattle.std.specs.Prelude.{ℕ, ◌-◌, ◌%◌, ◌==◌, Bool, List, [], ◌∷◌, ◌++◌, length, replicate, flat_map, ℤ, if◌then◌else◌, codes}
+use Rattle.std.specs.Prelude.{ℕ, ◌-◌, ◌%◌, ◌==◌, Bool, List, [], ◌∷◌, ◌++◌, length, replicate}
+use Rattle.std.specs.Prelude.{flat_map, ℤ, if◌then◌else◌, codes}
 use Rattle.std.specs.Int.{bytes_high_first, cast_unsigned, w32}
 use Rattle.wf_model.specs.declared.header.Header.{Header}
 use Rattle.wf_model.specs.declared.header.Dim.{Dim}
@@ -37,7 +38,8 @@ name_bytes name = four_bytes (length name) ++ padded name
 -- eight zero bytes, or a tag, a count and the items
 abbrev pub list_bytes : {A : Type 0} → ℕ → (A → List ℕ) → List A → List ℕ
 list_bytes tag each [] = four_bytes 0 ++ four_bytes 0
-list_bytes tag each (x ∷ xs) = four_bytes tag ++ four_bytes (length (x ∷ xs)) ++ flat_map each (x ∷ xs)
+list_bytes tag each (x ∷ xs) =
+    four_bytes tag ++ four_bytes (length (x ∷ xs)) ++ flat_map each (x ∷ xs)
 
 -- a dimension: name and length
 abbrev pub dim_bytes : Dim → List ℕ
@@ -45,7 +47,8 @@ dim_bytes dim = name_bytes dim.name ++ four_bytes dim.len
 
 -- an attribute: name, type, count and padded values
 abbrev pub att_bytes : Att → List ℕ
-att_bytes att = name_bytes att.name ++ four_bytes att.kind ++ four_bytes att.count ++ padded att.bytes
+att_bytes att = name_bytes att.name ++ four_bytes att.kind ++ four_bytes att.count
+    ++ padded att.bytes
 
 -- where a variable begins: four bytes in version 1, and eight in version 2
 abbrev pub begin_bytes : ℕ → ℕ → List ℕ
@@ -54,11 +57,13 @@ begin_bytes version begin = if version == 1 then four_bytes begin else eight_byt
 -- a variable: name, rank, the numbers of its dimensions, attributes, type, size and begin
 abbrev pub var_bytes : ℕ → Var → List ℕ
 var_bytes version var =
-    name_bytes var.name ++ four_bytes (length var.dims) ++ flat_map four_bytes var.dims ++ list_bytes 12 att_bytes var.atts
+    name_bytes var.name ++ four_bytes (length var.dims) ++ flat_map four_bytes var.dims
+    ++ list_bytes 12 att_bytes var.atts
     ++ four_bytes var.kind ++ four_bytes var.vsize ++ begin_bytes version var.begin
 
 -- a header: CDF, the version, the number of records, dimensions, attributes and variables
 unfoldable pub header_bytes : Header → List ℕ
 header_bytes h =
-    codes "CDF" ++ h.version ∷ four_bytes h.numrecs ++ list_bytes 10 dim_bytes h.dims ++ list_bytes 12 att_bytes h.atts
+    codes "CDF" ++ h.version ∷ four_bytes h.numrecs ++ list_bytes 10 dim_bytes h.dims
+    ++ list_bytes 12 att_bytes h.atts
     ++ list_bytes 11 (var_bytes h.version) h.vars

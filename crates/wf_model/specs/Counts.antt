@@ -1,5 +1,7 @@
--- What is counted of a plan before anything is read: cells, items of the script, bytes of files, events.
-use Rattle.std.specs.Prelude.{ℕ, ◌+◌, ◌-◌, ◌*◌, ◌/◌, ◌==◌, false, ◌&&◌, nat_lt, min, List, [], length, map, sum_by, pos, if◌then◌else◌, slice_index}
+-- What is counted of a plan before anything is read: cells, items of the script, bytes of
+-- files, events.
+use Rattle.std.specs.Prelude.{ℕ, ◌+◌, ◌-◌, ◌*◌, ◌/◌, ◌==◌, false, ◌&&◌, nat_lt, min, List, []}
+use Rattle.std.specs.Prelude.{length, map, sum_by, pos, if◌then◌else◌, slice_index}
 use Rattle.wf_model.specs.declared.plan.Plan.{Plan}
 use Rattle.wf_model.specs.declared.initial.Begin.{Begin}
 use Rattle.wf_model.specs.declared.script.Act.{Act}
@@ -32,7 +34,8 @@ level_memory plan split d patch f =
 -- of the memories of all patches
 abbrev pub memory_cells : Plan → Split → ℕ
 memory_cells plan split =
-    sum_by (λ d. sum_by (λ p. sum_by (level_memory plan split d p) (levels_of plan)) (patches_of split)) (domains_of plan)
+    sum_by (λ d. sum_by (λ p. sum_by (level_memory plan split d p) (levels_of plan))
+    (patches_of split)) (domains_of plan)
 
 -- ---- the script, where no domain resumes and each domain's steps begin at 0
 
@@ -57,7 +60,8 @@ script_items plan = length (fresh_script plan) + more_restarts plan
 
 -- the steps of a domain within the run
 abbrev pub own_steps : Plan → ℕ → ℕ
-own_steps plan d = (plan.steps * (domain_of plan 1).seconds - not_before (domain_of plan d).begins) / (domain_of plan d).seconds
+own_steps plan d = (plan.steps * (domain_of plan 1).seconds - not_before (domain_of plan d).begins)
+    / (domain_of plan d).seconds
 
 -- how many of them are due
 abbrev pub due_steps : ℕ → ℕ → ℕ
@@ -67,16 +71,22 @@ due_steps interval steps = if interval == 0 then 0 else steps / interval
 abbrev pub file_records : Plan → ℕ → ℕ → ℕ
 file_records plan d stream =
     if stream == restart_stream then 1
-    else min (frames_per_file plan d stream) (1 + due_steps (slice_index (domain_of plan d).intervals stream) (own_steps plan d))
+    else min (frames_per_file plan d stream)
+    (1 + due_steps (slice_index (domain_of plan d).intervals stream) (own_steps plan d))
 
 -- the size of a file of a stream
 abbrev pub stream_bytes : Plan → ℕ → ℕ → ℕ
-stream_bytes plan d stream = file_size (file_header plan d stream plan.start 0) (file_records plan d stream)
+stream_bytes plan d stream =
+    file_size (file_header plan d stream plan.start 0) (file_records plan d stream)
 
 -- ---- events: of each patch its halves, of each piece a gathering, and of each frame a writing
 
 abbrev pub fresh_run : Plan → RunData
-fresh_run plan = record { plan = plan; initial = record { grids = []; begins = fresh_begins plan }; answers = λ id xs. pos 0 }
+fresh_run plan = record {
+  plan = plan;
+  initial = record { grids = []; begins = fresh_begins plan };
+  answers = λ id xs. pos 0;
+}
 
 -- of a frame: a gathering for each piece, and its writing
 abbrev pub frame_events : Plan → ℕ → ℕ → ℕ
@@ -84,7 +94,8 @@ frame_events plan patches stream = length (stream_levels plan stream) * patches 
 
 -- what the patches do of one more frame, and the frame
 abbrev pub more_events : Plan → ℕ → ℕ → ℕ
-more_events plan patches stream = length (emit_halves (stream_levels plan stream)) * patches + frame_events plan patches stream
+more_events plan patches stream =
+    length (emit_halves (stream_levels plan stream)) * patches + frame_events plan patches stream
 
 abbrev pub emit_events : Plan → ℕ → Act → ℕ
 emit_events plan patches (Emit stream) = frame_events plan patches stream

@@ -1,5 +1,9 @@
--- The built-in case in words of its own: the whole grid after so many steps, the store calls of its run, and its answer.
-use Rattle.std.specs.Prelude.{ℕ, zero, suc, ◌+◌, ◌-◌, ◌*◌, ◌/◌, ◌%◌, ◌==◌, Bool, not, ◌&&◌, ◌||◌, nat_lt, nat_le, List, [], ◌∷◌, ◌++◌, length, map, flat_map, sum, sum_by, ℤ, pos, Option, Some, None, if◌then◌else◌, codes, slice_index_or}
+-- The built-in case in words of its own: the whole grid after so many steps, the store calls of its
+-- run, and its answer.
+use Rattle.std.specs.Prelude.{ℕ, zero, suc, ◌+◌, ◌-◌, ◌*◌, ◌/◌, ◌%◌, ◌==◌, Bool, not, ◌&&◌, ◌||◌}
+use Rattle.std.specs.Prelude.{nat_lt, nat_le, List, [], ◌∷◌, ◌++◌, length, map, flat_map, sum}
+use Rattle.std.specs.Prelude.{sum_by, ℤ, pos, Option, Some, None, if◌then◌else◌, codes}
+use Rattle.std.specs.Prelude.{slice_index_or}
 use Rattle.std.specs.List.{range_with_len}
 use Rattle.std.specs.Str.{bytes_eq}
 use Rattle.wf_model.specs.declared.demo.Demo.{Demo}
@@ -34,7 +38,8 @@ unfoldable pub demo_value : ℕ → ℕ → ℕ → ℕ → ℕ → ℕ
 demo_value nx ny zero j i = (37 * (i - 1) + 53 * (j - 1)) % 100
 demo_value nx ny (suc n) j i =
     if is_inner nx ny j i
-    then weighted (demo_value nx ny n j i) (demo_value nx ny n j (i - 1)) (demo_value nx ny n j (i + 1)) (demo_value nx ny n (j - 1) i) (demo_value nx ny n (j + 1) i)
+    then weighted (demo_value nx ny n j i) (demo_value nx ny n j (i - 1))
+    (demo_value nx ny n j (i + 1)) (demo_value nx ny n (j - 1) i) (demo_value nx ny n (j + 1) i)
     else demo_value nx ny n j i
 
 -- its list, row by row
@@ -49,7 +54,8 @@ demo_file = codes "wrfout_d01_2000-01-01_00:00:00"
 
 -- the header of its file
 abbrev pub demo_header : ℕ → ℕ → ℕ → List ℕ
-demo_header nx ny steps = header_bytes (placed (file_header (demo_plan nx ny steps) 1 0 case_start 0))
+demo_header nx ny steps =
+    header_bytes (placed (file_header (demo_plan nx ny steps) 1 0 case_start 0))
 
 -- the time text of the frame after n steps of 60 seconds
 abbrev pub demo_time : ℕ → List ℕ
@@ -58,7 +64,8 @@ demo_time n = padded (time_text case_start (60 * n))
 -- the frame after n steps: its time, its grid, and the new number of records
 abbrev pub demo_frame : ℕ → ℕ → ℕ → List StoreCall
 demo_frame nx ny n =
-    append demo_file (demo_time n) ∷ append demo_file (slab_bytes (demo_grid nx ny n)) ∷ write_at demo_file 4 (four_bytes (n + 1)) ∷ []
+    append demo_file (demo_time n) ∷ append demo_file (slab_bytes (demo_grid nx ny n))
+    ∷ write_at demo_file 4 (four_bytes (n + 1)) ∷ []
 
 -- those of the first n frames
 abbrev pub demo_frames : ℕ → ℕ → ℕ → List StoreCall
@@ -66,7 +73,8 @@ demo_frames nx ny n = flat_map (demo_frame nx ny) (range_with_len 0 n)
 
 -- a frame at the start and after each step
 abbrev pub demo_calls : Demo → List StoreCall
-demo_calls d = create demo_file ∷ append demo_file (demo_header d.nx d.ny d.steps) ∷ demo_frames d.nx d.ny (d.steps + 1)
+demo_calls d = create demo_file ∷ append demo_file (demo_header d.nx d.ny d.steps)
+    ∷ demo_frames d.nx d.ny (d.steps + 1)
 
 -- ---- the text
 
@@ -99,13 +107,14 @@ column_sum nx ny n i = sum_by (λ j. demo_value nx ny n j i) (up_to ny)
 abbrev pub if_column : ℕ → ℕ → ℕ → List (ℕ × ℕ)
 if_column nx n i = if nat_lt 0 i && nat_le i nx then (n, i) ∷ [] else []
 
--- the columns that a patch holds, each with the steps that it has behind it: its own all of them, and the one beside
--- each end one less, or none where there are none
+-- the columns that a patch holds, each with the steps that it has behind it: its own all of them,
+-- and the one beside each end one less, or none where there are none
 abbrev pub held_columns : Demo → ℕ → List (ℕ × ℕ)
 held_columns d p =
     let first = first_column d.nx d.px p in
     let end = end_column d.nx d.px p in
-    if_column d.nx (d.steps - 1) (first - 1) ++ map (λ i. (d.steps, i)) (range_with_len first (end - first)) ++ if_column d.nx (d.steps - 1) end
+    if_column d.nx (d.steps - 1) (first - 1) ++ map (λ i. (d.steps, i))
+    (range_with_len first (end - first)) ++ if_column d.nx (d.steps - 1) end
 
 -- a patch's line: its cells and their sum
 abbrev pub demo_memory : Demo → ℕ → MemoryLine
@@ -124,12 +133,14 @@ demo_memories d = map (demo_memory d) (range_with_len 0 d.px)
 
 -- 1 to 4 digits, and no zero before another digit
 abbrev pub is_word_number : Text → Bool
-is_word_number word = is_digits word && nat_le (length word) 4 && (not (begins_with 48 word) || (length word == 1))
+is_word_number word =
+    is_digits word && nat_le (length word) 4 && (not (begins_with 48 word) || (length word == 1))
 
 -- a number from `low` to `high`
 abbrev pub word_number : ℕ → ℕ → Text → Option ℕ
 word_number low high word =
-    if is_word_number word && nat_le low (digits_value word) && nat_le (digits_value word) high then Some (digits_value word) else None
+    if is_word_number word && nat_le low (digits_value word) && nat_le (digits_value word) high
+    then Some (digits_value word) else None
 
 -- the word at a place, counted from 0
 abbrev pub word_at : List Text → ℕ → Text
@@ -147,8 +158,10 @@ demo_numbers x y n p each =
 -- the demo that the words ask for
 unfoldable pub demo_of : List Text → Option Demo
 demo_of words =
-    if bytes_eq (word_at words 0) (codes "demo") && ((length words == 5) || ((length words == 6) && bytes_eq (word_at words 5) (codes "--memory")))
-    then demo_numbers (word_at words 1) (word_at words 2) (word_at words 3) (word_at words 4) (length words == 6)
+    if bytes_eq (word_at words 0) (codes "demo") && ((length words == 5)
+    || ((length words == 6) && bytes_eq (word_at words 5) (codes "--memory")))
+    then demo_numbers (word_at words 1) (word_at words 2) (word_at words 3) (word_at words 4)
+    (length words == 6)
     else None
 
 -- ---- the answer
@@ -161,7 +174,11 @@ usage = record { status = 1; text = line (codes "usage: wrftool COMMAND [WORDS]"
 unfoldable pub demo_answer : Demo → Answer
 demo_answer d =
     if nat_lt d.nx d.px then refused (layout_refusal (TooManyPatches 1 d.px))
-    else record { status = 0; text = summary_line (demo_summary d) ++ memory_text (how d.each) (demo_memories d); calls = demo_calls d }
+    else record {
+      status = 0;
+      text = summary_line (demo_summary d) ++ memory_text (how d.each) (demo_memories d);
+      calls = demo_calls d;
+    }
 
 -- the answer to a demo that is asked for, or else the usage
 abbrev pub asked_answer : Option Demo → Answer

@@ -75,7 +75,11 @@ abbrev pub no_parts : Parts
 no_parts = record { divisors = []; numbers = []; calls = [] }
 
 abbrev pub parts_of_both : Parts → Parts → Parts
-parts_of_both a b = record { divisors = a.divisors ++ b.divisors; numbers = a.numbers ++ b.numbers; calls = a.calls ++ b.calls }
+parts_of_both a b = record {
+  divisors = a.divisors ++ b.divisors;
+  numbers = a.numbers ++ b.numbers;
+  calls = a.calls ++ b.calls;
+}
 
 abbrev pub divided : Parts → ℕ → Parts
 divided a n = record { divisors = a.divisors ++ n ∷ []; numbers = a.numbers; calls = a.calls }
@@ -111,7 +115,8 @@ layer_parts (e.Div a n) = divided a n
 layer_parts (e.Mod a n) = divided a n
 layer_parts (e.Min a b) = parts_of_both a b
 layer_parts (e.Max a b) = parts_of_both a b
-layer_parts (e.If test a b chosen other) = parts_of_both (parts_of_both a b) (parts_of_both chosen other)
+layer_parts (e.If test a b chosen other) =
+    parts_of_both (parts_of_both a b) (parts_of_both chosen other)
 layer_parts (e.Call id list) = call_parts id list
 
 unfoldable pub parts_of : Expr → Parts

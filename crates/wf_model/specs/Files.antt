@@ -1,5 +1,6 @@
 -- The files of a store, and the calls that write them.
-use Rattle.std.specs.Prelude.{ℕ, ◌+◌, List, [], ◌++◌, length, take, drop, fold, Option, Some, unwrap_or, if◌then◌else◌}
+use Rattle.std.specs.Prelude.{ℕ, ◌+◌, List, [], ◌++◌, length, take, drop, fold, Option, Some}
+use Rattle.std.specs.Prelude.{unwrap_or, if◌then◌else◌}
 use Rattle.std.specs.Str.{bytes_eq}
 
 -- the bytes that each name has, if it is a file's
@@ -28,7 +29,8 @@ pub data StoreCall : Type 0 where
 abbrev pub after_call : Files → StoreCall → Files
 after_call files (create name) = with_file files name []
 after_call files (append name bytes) = with_file files name (bytes_at files name ++ bytes)
-after_call files (write_at name at bytes) = with_file files name (patched (bytes_at files name) at bytes)
+after_call files (write_at name at bytes) =
+    with_file files name (patched (bytes_at files name) at bytes)
 
 -- the files after all of the calls
 abbrev pub files_after_all : Files → List StoreCall → Files

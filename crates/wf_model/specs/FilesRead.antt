@@ -1,5 +1,6 @@
 -- The files of a command, read and judged in order. The first refusal ends it.
-use Rattle.std.specs.Prelude.{ℕ, zero, suc, List, [], ◌∷◌, ◌++◌, Option, Some, None, Result, Ok, Err, if◌then◌else◌, codes}
+use Rattle.std.specs.Prelude.{ℕ, zero, suc, List, [], ◌∷◌, ◌++◌, Option, Some, None, Result, Ok}
+use Rattle.std.specs.Prelude.{Err, if◌then◌else◌, codes}
 use Rattle.std.specs.Str.{is_utf8}
 use Rattle.wf_model.specs.declared.registry.SourceFile.{SourceFile}
 use Rattle.wf_model.specs.declared.registry.Registry.{Registry}
@@ -25,7 +26,9 @@ use Rattle.wf_model.specs.PlanOf.{plan_of, layout_of}
 use Rattle.wf_model.specs.InputOf.{input_of}
 use Rattle.wf_model.specs.Uncovered.{first_uncovered, first_lost}
 use Rattle.wf_model.specs.Files.{Files}
-use Rattle.wf_model.specs.Refusals.{Refusal, numbered, registry_refusal, namelist_refusal, config_refusal, table_refusal, plan_refusal, restart_refusal, halo_refusal, input_refusal, layout_refusal}
+use Rattle.wf_model.specs.Refusals.{Refusal, numbered, registry_refusal, namelist_refusal}
+use Rattle.wf_model.specs.Refusals.{config_refusal, table_refusal, plan_refusal, restart_refusal}
+use Rattle.wf_model.specs.Refusals.{halo_refusal, input_refusal, layout_refusal}
 use Rattle.std.specs.Option.{option_map}
 
 -- ---- the Registry: a file that an include wants is read, and the Registry is asked for again
@@ -43,22 +46,26 @@ wanted (MissingInclude name) = Some name
 wanted other = None
 
 -- once more, with the wanted file, if there is one
-abbrev pub with_wanted : (List SourceFile → Result Registry RegistryFault) → List SourceFile → RegistryFault → Text → Option (List ℕ) → Result Registry RegistryFault
+abbrev pub with_wanted : (List SourceFile → Result Registry RegistryFault) → List SourceFile →
+    RegistryFault → Text → Option (List ℕ) → Result Registry RegistryFault
 with_wanted again have f name None = Err f
 with_wanted again have f name (Some text) = again (have ++ (source name text ∷ []))
 
-abbrev pub after_wanted : (List SourceFile → Result Registry RegistryFault) → Files → List SourceFile → RegistryFault → Option Text → Result Registry RegistryFault
+abbrev pub after_wanted : (List SourceFile → Result Registry RegistryFault) → Files →
+    List SourceFile → RegistryFault → Option Text → Result Registry RegistryFault
 after_wanted again files have f None = Err f
 after_wanted again files have f (Some name) = with_wanted again have f name (wanted_file files name)
 
-abbrev pub or_wanted : (List SourceFile → Result Registry RegistryFault) → Files → List SourceFile → Result Registry RegistryFault → Result Registry RegistryFault
+abbrev pub or_wanted : (List SourceFile → Result Registry RegistryFault) → Files → List SourceFile →
+    Result Registry RegistryFault → Result Registry RegistryFault
 or_wanted again files have (Ok r) = Ok r
 or_wanted again files have (Err f) = after_wanted again files have f (wanted f.kind)
 
 -- at most so many more files are read
 unfoldable pub registry_with : ℕ → Files → Defines → List SourceFile → Result Registry RegistryFault
 registry_with zero files defines have = registry_of have defines
-registry_with (suc n) files defines have = or_wanted (registry_with n files defines) files have (registry_of have defines)
+registry_with (suc n) files defines have =
+    or_wanted (registry_with n files defines) files have (registry_of have defines)
 
 abbrev pub main_source : Option (List ℕ) → List SourceFile
 main_source None = []
@@ -66,14 +73,16 @@ main_source (Some text) = source main_file text ∷ []
 
 -- the Registry of a store
 unfoldable pub registry_read : Files → Defines → Result Registry Refusal
-registry_read files defines = told_as registry_refusal (registry_with most_files files defines (main_source (files main_file)))
+registry_read files defines = told_as registry_refusal
+    (registry_with most_files files defines (main_source (files main_file)))
 
 -- ---- the namelist and the table
 
 abbrev pub namelist_text : Option (List ℕ) → Result Namelist Refusal
 namelist_text None = Err (numbered 3 (codes "namelist") 0 (codes "MissingFile"))
 namelist_text (Some text) =
-    if is_utf8 text then told_as namelist_refusal (namelist_of text) else Err (numbered 3 (codes "namelist") 0 (codes "NotText"))
+    if is_utf8 text then told_as namelist_refusal (namelist_of text)
+    else Err (numbered 3 (codes "namelist") 0 (codes "NotText"))
 
 abbrev pub table_text : Config → List HookName → Option (List ℕ) → Result (List Item) Refusal
 table_text config hooks None = Err (numbered 4 (codes "table") 0 (codes "MissingFile"))

@@ -1,6 +1,8 @@
--- The front: where each patch stands before each place of the script. It goes place by place, and knows no events and no mail:
--- what a patch does at a place is told by where all patches stood before that place. Each list of events leads along it.
-use Rattle.std.specs.Prelude.{ℕ, zero, suc, ◌+◌, Bool, true, false, ◌||◌, List, [], ◌∷◌, length, map, flat_map, zip, ℤ, is_some, Option, Some, None, slice_get}
+-- The front: where each patch stands before each place of the script. It goes place by place, and
+-- knows no events and no mail: what a patch does at a place is told by where all patches stood
+-- before that place. Each list of events leads along it.
+use Rattle.std.specs.Prelude.{ℕ, zero, suc, ◌+◌, Bool, true, false, ◌||◌, List, [], ◌∷◌, length}
+use Rattle.std.specs.Prelude.{map, flat_map, zip, ℤ, is_some, Option, Some, None, slice_get}
 use Rattle.std.specs.List.{list_any}
 use Rattle.wf_model.specs.declared.plan.Plan.{Plan}
 use Rattle.wf_model.specs.declared.layout.Layout.{Layout}
@@ -8,7 +10,8 @@ use Rattle.wf_model.specs.declared.script.Entry.{Entry}
 use Rattle.wf_model.specs.Outcome.{RunData, script}
 use Rattle.wf_model.specs.Patches.{split_of}
 use Rattle.wf_model.specs.Exchange.{Letter, sender_of, carried, senders_to}
-use Rattle.wf_model.specs.PatchEffect.{Memory, Setting, Mail, sets_nothing, after_setting, taking, computing, least_failure}
+use Rattle.wf_model.specs.PatchEffect.{Memory, Setting, Mail, sets_nothing, after_setting, taking}
+use Rattle.wf_model.specs.PatchEffect.{computing, least_failure}
 use Rattle.wf_model.specs.Halves.{Half, acts, sends, takes, posts, act_halves}
 use Rattle.wf_model.specs.Core.{begin_patch, memory_point}
 
@@ -31,7 +34,8 @@ abbrev pub unless_stopped : Bool → Stand → Stand → Stand
 unless_stopped true old new = old
 unless_stopped false old new = new
 
--- of a place's halves the last: sending and posting change no memory, so it alone tells where the patch stands after the place
+-- of a place's halves the last: sending and posting change no memory, so it alone tells where the
+-- patch stands after the place
 abbrev pub last_half : List Half → Half
 last_half [] = posts []
 last_half (h ∷ []) = h
@@ -51,7 +55,8 @@ module _ (r : RunData) (layout : Layout) where
   -- the numbers that a patch q sends to a patch p at an entry: those of its own cells
   abbrev pub sent_numbers : Stands → Entry → ℕ → ℕ → List ℤ
   sent_numbers f e q p =
-      map (memory_point r.plan (sender_of r.plan e e.act) (f (sender_of r.plan e e.act) q).memory) (carried r.plan (split_of layout) e e.act q p)
+      map (memory_point r.plan (sender_of r.plan e e.act) (f (sender_of r.plan e e.act) q).memory)
+      (carried r.plan (split_of layout) e e.act q p)
 
   -- the message that it sends at place k
   abbrev pub letter_at : Stands → ℕ → Entry → ℕ → ℕ → Letter
@@ -59,11 +64,13 @@ module _ (r : RunData) (layout : Layout) where
 
   -- all that comes to a patch at an entry: the cells of each message, and their numbers
   abbrev pub mail_to : Stands → Entry → ℕ → Mail
-  mail_to f e p = flat_map (λ q. zip (carried r.plan (split_of layout) e e.act q p) (sent_numbers f e q p)) (senders_to r.plan (split_of layout) e p)
+  mail_to f e p = flat_map (λ q. zip (carried r.plan (split_of layout) e e.act q p)
+      (sent_numbers f e q p)) (senders_to r.plan (split_of layout) e p)
 
   -- one of the patches that should send to it is stopped
   abbrev pub lacks_mail : Stands → Entry → ℕ → Bool
-  lacks_mail f e p = list_any (λ q. (f (sender_of r.plan e e.act) q).is_stopped) (senders_to r.plan (split_of layout) e p)
+  lacks_mail f e p = list_any (λ q. (f (sender_of r.plan e e.act) q).is_stopped)
+      (senders_to r.plan (split_of layout) e p)
 
   -- what a half sets
   abbrev pub half_sets : Stands → Entry → ℕ → Memory → Half → Setting
@@ -87,7 +94,8 @@ module _ (r : RunData) (layout : Layout) where
   unfoldable pub half_effect : Stands → Entry → ℕ → ℕ → Half → Stand
   half_effect f e d p h =
       unless_stopped (f d p).is_stopped (f d p)
-      (stand_after (half_stops f e d p (f d p).memory h) (half_sets f e p (f d p).memory h) (f d p).memory)
+      (stand_after (half_stops f e d p (f d p).memory h)
+      (half_sets f e p (f d p).memory h) (f d p).memory)
 
   -- where a patch stands after a place
   abbrev pub place_effect : Option Entry → Stands → Stands

@@ -28,11 +28,13 @@ case_registry = lines (
 unfoldable pub case_namelist : ℕ → ℕ → ℕ → ℕ → ℕ → ℕ → ℕ → Text
 case_namelist run history px py tiles we sn = lines (
     codes "&time_control" ∷
-    (codes " run_minutes = " ++ decimal run ++ codes ", start_year = 2000, start_month = 1, start_day = 1,") ∷
+    (codes " run_minutes = " ++ decimal run
+    ++ codes ", start_year = 2000, start_month = 1, start_day = 1,") ∷
     (codes " history_interval = " ++ decimal history ++ codes ", frames_per_outfile = 10,") ∷
     codes "/" ∷
     codes "&domains" ∷
-    (codes " time_step = 60, max_dom = 1, nproc_x = " ++ decimal px ++ codes ", nproc_y = " ++ decimal py ++ codes ", numtiles = " ++ decimal tiles ++ codes ",") ∷
+    (codes " time_step = 60, max_dom = 1, nproc_x = " ++ decimal px ++ codes ", nproc_y = "
+    ++ decimal py ++ codes ", numtiles = " ++ decimal tiles ++ codes ",") ∷
     (codes " e_we = " ++ decimal we ++ codes ", e_sn = " ++ decimal sn ++ codes ", e_vert = 2,") ∷
     codes "/" ∷
     codes "&bdy_control" ∷
@@ -48,12 +50,14 @@ case_table = lines (
 
 -- with one record
 abbrev pub one_record : Header → Header
-one_record h = record { version = h.version; numrecs = 1; dims = h.dims; atts = h.atts; vars = h.vars }
+one_record h =
+    record { version = h.version; numrecs = 1; dims = h.dims; atts = h.atts; vars = h.vars }
 
 -- the input of x by y points: one variable A, one record of (a(i-1) + 53(j-1)) mod m
 unfoldable pub case_input : ℕ → ℕ → ℕ → ℕ → Text
 case_input a m x y =
-    header_bytes (one_record (placed (file_header (case_plan x y 1 (case_field (codes "a") (codes "A")) []) 1 0 case_start 0)))
+    header_bytes (one_record (placed
+    (file_header (case_plan x y 1 (case_field (codes "a") (codes "A")) []) 1 0 case_start 0)))
     ++ padded case_start ++ slab_bytes (case_values a m x y)
 
 -- a file by two calls

@@ -1,5 +1,8 @@
 -- What a run begins with, from its input and restart files, or the first refusal.
-use Rattle.std.specs.Prelude.{ℕ, ◌+◌, ◌*◌, ◌==◌, Bool, true, false, not, ◌&&◌, ◌||◌, nat_le, List, [], ◌∷◌, ◌++◌, length, map, filter, find, replicate, ℤ, pos, int_lt, int_le, Option, Some, None, Result, Ok, Err, if◌then◌else◌, codes, unwrap_or}
+use Rattle.std.specs.Prelude.{ℕ, ◌+◌, ◌*◌, ◌==◌, Bool, true, false, not, ◌&&◌, ◌||◌, nat_le, List}
+use Rattle.std.specs.Prelude.{[], ◌∷◌, ◌++◌, length, map, filter, find, replicate, ℤ, pos, int_lt}
+use Rattle.std.specs.Prelude.{int_le, Option, Some, None, Result, Ok, Err, if◌then◌else◌, codes}
+use Rattle.std.specs.Prelude.{unwrap_or}
 use Rattle.std.specs.List.{list_any}
 use Rattle.std.specs.Str.{bytes_eq}
 use Rattle.std.specs.Slice.Scan.{big_endian}
@@ -13,7 +16,8 @@ use Rattle.wf_model.specs.declared.cdf_error.SlabError.TheVariants as slab
 use Rattle.wf_model.specs.declared.plan_fault.InputFault.{InputFault}
 use Rattle.wf_model.specs.declared.plan_fault.InputKind.{InputKind}
 use Rattle.wf_model.specs.declared.plan_fault.InputKind.TheVariants as kind
-use Rattle.wf_model.specs.Reading.{◌>>=◌, each, told_as, fault_if, fault_unless, first_fault, unless_fault}
+use Rattle.wf_model.specs.Reading.{◌>>=◌, each, told_as, fault_if, fault_unless, first_fault}
+use Rattle.wf_model.specs.Reading.{unless_fault}
 use Rattle.wf_model.specs.Letters.{Text}
 use Rattle.wf_model.specs.Calendar.{moment_of, two_digits, time_text}
 use Rattle.wf_model.specs.Dates.{is_stamp, seconds_before}
@@ -83,7 +87,8 @@ time_read bytes h = bytes_read (slab_read bytes h times)
 
 -- the lengths of a level in files
 abbrev pub shape_of : Plan → ℕ → ℕ → List ℕ
-shape_of plan d f = (if (field_of plan f).z then nz plan f ∷ [] else []) ++ (file_y plan d f ∷ file_x plan d f ∷ [])
+shape_of plan d f =
+    (if (field_of plan f).z then nz plan f ∷ [] else []) ++ (file_y plan d f ∷ file_x plan d f ∷ [])
 
 -- the variable of a level
 abbrev pub level_asked : Plan → ℕ → ℕ → ℕ → Asked
@@ -93,23 +98,29 @@ level_asked plan d stream f = asked (variable_name plan stream f) 4 (shape_of pl
 abbrev pub zeros : Plan → ℕ → ℕ → List ℤ
 zeros plan d f = replicate (nz plan f * (ny plan d f * nx plan d f)) (pos 0)
 
--- a level's own points of the numbers in file shape: an extra point in a periodic direction is passed over
+-- a level's own points of the numbers in file shape: an extra point in a periodic direction is
+-- passed over
 abbrev pub own_points : Plan → ℕ → ℕ → List ℤ → List ℤ
-own_points plan d f values = listed (nz plan f) (ny plan d f) (nx plan d f) (grid_from (file_y plan d f) (file_x plan d f) values)
+own_points plan d f values = listed (nz plan f) (ny plan d f) (nx plan d f)
+    (grid_from (file_y plan d f) (file_x plan d f) values)
 
 -- the numbers of a level
 abbrev pub level_read : Plan → ℕ → ℕ → List ℕ → Header → ℕ → List ℤ
 level_read plan d stream bytes h f =
-    own_points plan d f (ints (product (shape_of plan d f)) (bytes_read (slab_read bytes h (level_asked plan d stream f))))
+    own_points plan d f (ints (product (shape_of plan d f))
+    (bytes_read (slab_read bytes h (level_asked plan d stream f))))
 
 -- the levels that a file gives, and 0 for the others
 abbrev pub grids_read : Plan → ℕ → ℕ → (ℕ → Bool) → List ℕ → Header → List (List ℤ)
 grids_read plan d stream gives bytes h =
-    map (λ f. if gives f then level_read plan d stream bytes h f else zeros plan d f) (levels_of plan)
+    map (λ f. if gives f then level_read plan d stream bytes h f else zeros plan d f)
+    (levels_of plan)
 
 -- `Times` and the variables of the levels that a file gives
-abbrev pub all_slabs : Plan → ℕ → ℕ → (ℕ → Bool) → List ℕ → Header → List (Result (List ℕ) SlabError)
-all_slabs plan d stream gives bytes h = map (slab_read bytes h) (times ∷ map (level_asked plan d stream) (filter gives (levels_of plan)))
+abbrev pub all_slabs : Plan → ℕ → ℕ → (ℕ → Bool) → List ℕ → Header →
+    List (Result (List ℕ) SlabError)
+all_slabs plan d stream gives bytes h = map (slab_read bytes h)
+    (times ∷ map (level_asked plan d stream) (filter gives (levels_of plan)))
 
 -- ---- a domain
 
@@ -173,7 +184,8 @@ has_attributes h = is_start_date (start_date h) && is_steps (steps_att h)
 -- the start and so many steps lead to the restart's time
 abbrev pub leads_to : Plan → ℕ → Header → Bool
 leads_to plan d h =
-    seconds_before (moment_of (start_date h).bytes) + big_endian 0 (steps_att h).bytes * (domain_of plan d).seconds == seconds_before (moment_of plan.start)
+    seconds_before (moment_of (start_date h).bytes) + big_endian 0 (steps_att h).bytes
+    * (domain_of plan d).seconds == seconds_before (moment_of plan.start)
 
 -- a restart file gives the levels with `r`
 abbrev pub is_restored : Plan → ℕ → Bool
@@ -189,7 +201,11 @@ restart_read plan d bytes =
     ∷ fault_if (has_attributes h && not (leads_to plan d h)) kind.WrongTime
     ∷ fault_unless (has_attributes h) kind.WrongAttribute
     ∷ [])) (record {
-      begin = record { steps = big_endian 0 (steps_att h).bytes; start_text = (start_date h).bytes; resumed = true };
+      begin = record {
+        steps = big_endian 0 (steps_att h).bytes;
+        start_text = (start_date h).bytes;
+        resumed = true;
+      };
       grids = grids_read plan d restart_stream (is_restored plan) bytes h;
     })
 
@@ -210,27 +226,34 @@ abbrev pub may_resume : Plan → ℕ → Bool
 may_resume plan d = plan.restart && ((d == 1) || int_le (domain_of plan d).begins (pos 0))
 
 -- a file that must be there
-abbrev pub from_file : (List ℕ → Result DomainBegin InputKind) → Text → Option (List ℕ) → Result DomainBegin InputFault
+abbrev pub from_file : (List ℕ → Result DomainBegin InputKind) → Text → Option (List ℕ) →
+    Result DomainBegin InputFault
 from_file read file None = Err (fault_of file kind.Missing)
 from_file read file (Some bytes) = told_as (fault_of file) (read bytes)
 
 -- a domain that starts: from its input, or with 0
 abbrev pub started : Files → Plan → ℕ → Result DomainBegin InputFault
 started files plan d =
-    if (domain_of plan d).from_file then from_file (input_read plan d) (input_file d) (files (input_file d)) else Ok (with_zeros plan d)
+    if (domain_of plan d).from_file
+    then from_file (input_read plan d) (input_file d) (files (input_file d))
+    else Ok (with_zeros plan d)
 
 -- a domain that resumes where its restart file is there
 abbrev pub resumed_if : Files → Plan → ℕ → Option (List ℕ) → Result DomainBegin InputFault
-resumed_if files plan d None = if must_resume plan d then Err (fault_of (restart_file plan d) kind.Missing) else started files plan d
-resumed_if files plan d (Some bytes) = told_as (fault_of (restart_file plan d)) (restart_read plan d bytes)
+resumed_if files plan d None = if must_resume plan d
+    then Err (fault_of (restart_file plan d) kind.Missing) else started files plan d
+resumed_if files plan d (Some bytes) =
+    told_as (fault_of (restart_file plan d)) (restart_read plan d bytes)
 
 -- what a domain begins with, or the first refusal
 abbrev pub domain_begin : Files → Plan → ℕ → Result DomainBegin InputFault
-domain_begin files plan d = if may_resume plan d then resumed_if files plan d (files (restart_file plan d)) else started files plan d
+domain_begin files plan d = if may_resume plan d
+    then resumed_if files plan d (files (restart_file plan d)) else started files plan d
 
 abbrev pub initial_from : List DomainBegin → Initial
 initial_from ds = record { grids = map DomainBegin.grids ds; begins = map DomainBegin.begin ds }
 
 -- file by file, in order of domain
 unfoldable pub input_of : Files → Plan → Result Initial InputFault
-input_of files plan = each (domain_begin files plan) (domains_of plan) >>= λ ds. Ok (initial_from ds)
+input_of files plan =
+    each (domain_begin files plan) (domains_of plan) >>= λ ds. Ok (initial_from ds)

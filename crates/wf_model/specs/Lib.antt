@@ -74,3 +74,10 @@ pub mod Turns
 pub mod Agreement
 pub mod SoundRun
 pub mod ScriptParts
+pub mod Kept
+pub mod Offered
+pub mod Placed
+pub mod LeastStop
+pub mod Weights
+pub mod Continued
+pub mod Hooks

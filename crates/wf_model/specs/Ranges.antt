@@ -1,4 +1,5 @@
--- The ranges of the numbers of plans and layouts: of namelist values, of the stencil table, and the limits.
+-- The ranges of the numbers of plans and layouts: of namelist values, of the stencil table, and
+-- the limits.
 use Rattle.std.specs.Prelude.{◌≡◌, ℕ, ◌*◌, ◌^◌, ◌<◌, ◌≤◌, length, All, IsTrue, IsFalse}
 use Rattle.wf_model.specs.declared.plan.Domain.{Domain}
 use Rattle.wf_model.specs.declared.plan.Field.{Field}

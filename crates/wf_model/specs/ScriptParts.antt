@@ -1,5 +1,6 @@
 -- The script's parts of one nest at a time, and what a plan keeps so that its numbers fit.
-use Rattle.std.specs.Prelude.{◌≡◌, ℕ, ◌+◌, ◌*◌, ◌==◌, ◌<◌, ◌≤◌, Bool, ◌&&◌, nat_lt, List, [], ◌∷◌, ◌++◌, length, if◌then◌else◌, flat_map}
+use Rattle.std.specs.Prelude.{◌≡◌, ℕ, ◌+◌, ◌*◌, ◌==◌, ◌<◌, ◌≤◌, Bool, ◌&&◌, nat_lt, List, [], ◌∷◌}
+use Rattle.std.specs.Prelude.{◌++◌, length, if◌then◌else◌, flat_map}
 use Rattle.std.specs.List.{range_with_len}
 use Rattle.wf_model.specs.declared.plan.Plan.{Plan}
 use Rattle.wf_model.specs.declared.initial.Begin.{Begin}
@@ -18,16 +19,19 @@ module _ (plan : Plan) (begins : List Begin) where
   unfoldable pub nest_start : ℕ → ℕ → ℕ → List Entry
   nest_start d t c =
       if is_nest_of plan d c
-      then (if starts_at plan begins c t then entry c 0 t Start ∷ start_frames plan begins c t else [])
+      then (if starts_at plan begins c t
+      then entry c 0 t Start ∷ start_frames plan begins c t else [])
       else []
 
-  -- the items of c, where it is a nest of d that has started, in a step of d that begins at this time
+  -- the items of c, where it is a nest of d that has started, in a step of d that begins at
+  -- this time
   unfoldable pub nest_step : ℕ → ℕ → ℕ → ℕ → ℕ → List Entry
   nest_step depth d step t c =
       if is_nest_of plan d c
       then (if has_started_by plan begins c t
       then entry c (steps_by plan begins c t + 1) t Force
-      ∷ (flat_map (λ n. step_of plan begins depth c (t + n * (domain_of plan c).seconds)) (range_with_len 0 (domain_of plan c).time_ratio)
+      ∷ (flat_map (λ n. step_of plan begins depth c (t + n * (domain_of plan c).seconds))
+      (range_with_len 0 (domain_of plan c).time_ratio)
       ++ (if plan.feedback then entry c step t Feedback ∷ [] else []))
       else [])
       else []
@@ -41,4 +45,5 @@ module _ (plan : Plan) (begins : List Begin) where
     pub seconds : (d : ℕ) → IsDomain plan d → 1 ≤ (domain_of plan d).seconds
     pub streams : (d : ℕ) → IsDomain plan d → length (domain_of plan d).intervals ≡ 10
     pub steps : (d : ℕ) → IsDomain plan d → (begin_of begins d).steps ≤ 1000000000
-    pub nests : (c : ℕ) → 1 < c → IsDomain plan c → (domain_of plan c).seconds * (domain_of plan c).time_ratio ≡ (domain_of plan (domain_of plan c).parent).seconds
+    pub nests : (c : ℕ) → 1 < c → IsDomain plan c → (domain_of plan c).seconds
+        * (domain_of plan c).time_ratio ≡ (domain_of plan (domain_of plan c).parent).seconds

@@ -1,5 +1,7 @@
 -- How many bytes variables, records and files have in the netCDF classic format.
-use Rattle.std.specs.Prelude.{ℕ, ◌+◌, ◌*◌, ◌/◌, ◌==◌, Bool, false, not, nat_lt, max, List, [], ◌∷◌, length, map, fold, filter, sum_by, if◌then◌else◌, slice_index, slice_index_or}
+use Rattle.std.specs.Prelude.{ℕ, ◌+◌, ◌*◌, ◌/◌, ◌==◌, Bool, false, not, nat_lt, max, List, [], ◌∷◌}
+use Rattle.std.specs.Prelude.{length, map, fold, filter, sum_by, if◌then◌else◌, slice_index}
+use Rattle.std.specs.Prelude.{slice_index_or}
 use Rattle.wf_model.specs.declared.header.Header.{Header}
 use Rattle.wf_model.specs.declared.header.Dim.{Dim}
 use Rattle.wf_model.specs.declared.header.Var.{Var}
@@ -67,7 +69,8 @@ fixed_vars h = filter (λ v. not (is_record_var h.dims v)) h.vars
 abbrev pub is_narrow : Var → Bool
 is_narrow v = nat_lt (type_size v.kind) 4
 
--- one record: the slabs of all record variables, each padded, but for a narrow one that is the only one
+-- one record: the slabs of all record variables, each padded, but for a narrow one that is the
+-- only one
 abbrev pub size_of_slabs : List Dim → List Var → ℕ
 size_of_slabs dims [] = 0
 size_of_slabs dims (v ∷ []) = if is_narrow v then slab_size dims v else padded_size dims v

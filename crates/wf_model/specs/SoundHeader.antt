@@ -1,5 +1,6 @@
 -- What a header keeps that can be placed and written.
-use Rattle.std.specs.Prelude.{◌≡◌, ◌⊎◌, ℕ, ◌-◌, ◌*◌, ◌^◌, ◌<◌, ◌≤◌, List, length, filter, All, IsTrue, not}
+use Rattle.std.specs.Prelude.{◌≡◌, ◌⊎◌, ℕ, ◌-◌, ◌*◌, ◌^◌, ◌<◌, ◌≤◌, List, length, filter, All}
+use Rattle.std.specs.Prelude.{IsTrue, not}
 use Rattle.wf_model.specs.declared.header.Header.{Header}
 use Rattle.wf_model.specs.declared.header.Dim.{Dim}
 use Rattle.wf_model.specs.declared.header.Att.{Att}

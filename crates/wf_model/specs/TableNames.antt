@@ -1,5 +1,6 @@
 -- Names in the stencil table: of fields, of levels and of stored functions.
-use Rattle.std.specs.Prelude.{ℕ, Bool, true, false, ◌&&◌, List, [], ◌∷◌, find, Option, Some, None, Result, Ok, if◌then◌else◌, codes}
+use Rattle.std.specs.Prelude.{ℕ, Bool, true, false, ◌&&◌, List, [], ◌∷◌, find, Option, Some, None}
+use Rattle.std.specs.Prelude.{Result, Ok, if◌then◌else◌, codes}
 use Rattle.std.specs.List.{position, slice_get}
 use Rattle.std.specs.Str.{bytes_eq}
 use Rattle.wf_model.specs.declared.table.Names.{Names}
@@ -14,7 +15,8 @@ use Rattle.wf_model.specs.Tokens.{At, Reader, keyword, past, syntax, name_next}
 
 -- words of the language, which are no field names
 abbrev pub reserved : List Text
-reserved = codes "i" ∷ codes "j" ∷ codes "k" ∷ codes "step" ∷ codes "min" ∷ codes "max" ∷ codes "if" ∷ codes "then" ∷ codes "else" ∷ codes "call" ∷ codes "div" ∷ codes "mod" ∷ []
+reserved = codes "i" ∷ codes "j" ∷ codes "k" ∷ codes "step" ∷ codes "min" ∷ codes "max" ∷ codes "if"
+    ∷ codes "then" ∷ codes "else" ∷ codes "call" ∷ codes "div" ∷ codes "mod" ∷ []
 
 -- the name of a field or a level, which is no word of the language
 abbrev pub field_name : At → Result Text TableKind
@@ -25,7 +27,8 @@ is_level name l = bytes_eq l.0 name
 
 -- a level's number
 abbrev pub level : Names → Reader ℕ
-level names at = field_name at >>= λ name. or_fault (position (is_level name) names.levels) UnknownField >>= λ f. Ok (f, past at)
+level names at = field_name at >>= λ name.
+    or_fault (position (is_level name) names.levels) UnknownField >>= λ f. Ok (f, past at)
 
 -- a level that has a z letter
 abbrev pub has_z : Option (Text × Bool) → Bool
@@ -43,4 +46,5 @@ is_called other = false
 
 -- the stored function that a table may call by this name
 abbrev pub called_hook : Names → Text → Option HookName
-called_hook names name = find (λ (h : HookName). bytes_eq h.name name && is_called h.kind) names.hooks
+called_hook names name =
+    find (λ (h : HookName). bytes_eq h.name name && is_called h.kind) names.hooks

@@ -1,4 +1,5 @@
--- What a domain has done before a place of the script, since its start: its forces, its items of the table, and the feedbacks of its nests.
+-- What a domain has done before a place of the script, since its start: its forces, its items of
+-- the table, and the feedbacks of its nests.
 use Rattle.std.specs.Prelude.{ℕ, ◌==◌, List, [], ◌∷◌, ◌++◌, fold, take, if◌then◌else◌}
 use Rattle.wf_model.specs.declared.plan.Plan.{Plan}
 use Rattle.wf_model.specs.declared.script.Act.{Act}
@@ -12,7 +13,8 @@ use Rattle.wf_model.specs.Cycle.{Turn, forced, done, fed}
 abbrev pub turns_act : Plan → ℕ → List Turn → Entry → Act → List Turn
 turns_act plan d ts e Start = if e.domain == d then [] else ts
 turns_act plan d ts e Force = if e.domain == d then ts ++ (forced ∷ []) else ts
-turns_act plan d ts e Feedback = if (domain_of plan e.domain).parent == d then ts ++ (fed ∷ []) else ts
+turns_act plan d ts e Feedback =
+    if (domain_of plan e.domain).parent == d then ts ++ (fed ∷ []) else ts
 turns_act plan d ts e (Table n) = if e.domain == d then ts ++ (done (item_of plan n) ∷ []) else ts
 turns_act plan d ts e (Emit s) = ts
 

@@ -1,5 +1,6 @@
 -- The store calls of a run, and its summary.
-use Rattle.std.specs.Prelude.{ℕ, ◌+◌, List, [], ◌∷◌, ◌++◌, length, map, flat_map, filter, nat_lt, sum, sum_by, if◌then◌else◌}
+use Rattle.std.specs.Prelude.{ℕ, ◌+◌, List, [], ◌∷◌, ◌++◌, length, map, flat_map, filter, nat_lt}
+use Rattle.std.specs.Prelude.{sum, sum_by, if◌then◌else◌}
 use Rattle.wf_model.specs.declared.frame.Frame.{Frame}
 use Rattle.wf_model.specs.Files.{StoreCall, create, append, write_at}
 use Rattle.wf_model.specs.Plans.{begin_of}
@@ -15,7 +16,8 @@ steps_at r frame = (entry_at r frame.place).step
 -- the header of a frame's file, with no record
 abbrev pub header_of : RunData → Frame → List ℕ
 header_of r frame =
-    header_bytes (placed (file_header r.plan frame.domain frame.stream (begin_of r.initial.begins frame.domain).start_text (steps_at r frame)))
+    header_bytes (placed (file_header r.plan frame.domain frame.stream
+    (begin_of r.initial.begins frame.domain).start_text (steps_at r frame)))
 
 -- the bytes of a frame, `Times` first. `Times` alone is not padded
 unfoldable pub record_of : RunData → Frame → List (List ℕ)
@@ -23,7 +25,8 @@ record_of r frame =
     char_bytes (nat_lt 0 (length (variables_of r frame))) frame.time
     ∷ map (λ f. slab_bytes (slab_of r frame f)) (variables_of r frame)
 
--- a frame: its file and header where it is the first in its file, each of its slabs, and the new number of records
+-- a frame: its file and header where it is the first in its file, each of its slabs, and the new
+-- number of records
 unfoldable pub frame_calls : RunData → Frame → List StoreCall
 frame_calls r frame =
     (if frame.first then create frame.file ∷ append frame.file (header_of r frame) ∷ [] else [])

@@ -1,4 +1,5 @@
-/// A demo as its words ask for it: points in x and y, steps, patches in x, and whether each patch's memory is printed.
+/// A demo as its words ask for it: points in x and y, steps, patches in x, and whether each patch's
+/// memory is printed.
 #[derive(Clone, Copy, Debug)]
 pub struct Demo {
     pub nx: u32,

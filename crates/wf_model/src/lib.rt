@@ -2,15 +2,19 @@
 #![tactic(auto)]
 
 mod cdf_error;
+pub mod cdf_type;
 mod config;
+mod copies;
 mod demo;
 mod event;
 mod expr;
+pub mod extents;
 mod finished;
 mod frame;
 mod header;
 mod initial;
 mod layout;
+pub mod limits;
 mod list;
 mod message;
 mod name;
@@ -33,6 +37,7 @@ pub use config::{Config, ConfigFault, values_of};
 pub use demo::Demo;
 pub use event::Event;
 pub use expr::{Args, Expr, Test};
+pub use extents::Extents;
 pub use finished::{CoreError, Finished};
 pub use frame::Frame;
 pub use header::{Att, Dim, Header, Var};

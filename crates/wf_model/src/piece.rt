@@ -5,7 +5,8 @@ use crate::list::List;
 use crate::run_name::RunName;
 use std::marker::{Model, PhantomData};
 
-/// What a patch posts of a frame's variable for a quilt server: the numbers of its own cells in order k, j, i.
+/// What a patch posts of a frame's variable for a quilt server: the numbers of its own cells in
+/// order k, j, i.
 #[derive(Drop)]
 pub struct Piece<N: RunName> {
     frame: u32,
@@ -22,7 +23,12 @@ impl<N: RunName> Model for Piece<N> {
 
     ghost Value = { Posted };
 
-    ghost view = { λ p. record { frame = p.frame; field = p.field; patch = p.patch; values = p.values } };
+    ghost view = { λ p. record {
+      frame = p.frame;
+      field = p.field;
+      patch = p.patch;
+      values = p.values;
+    } };
 
     ghost invariant = { λ p. p.values ≡ piece_numbers N.run N.layout p.frame p.field p.patch };
 }
@@ -31,7 +37,8 @@ impl<N: RunName> Piece<N> {
     /// The piece of a field level of a frame that a patch posts.
     pub fn new(frame: u32, field: u32, patch: u32, values: Vec<i32>) -> Piece<N>
         requires { values.items ≡ piece_numbers N.run N.layout frame field patch }
-        ensures { result ≡ record { frame = frame; field = field; patch = patch; values = values.items } }
+        ensures { result
+            ≡ record { frame = frame; field = field; patch = patch; values = values.items } }
     {
         Piece {
             frame,
@@ -66,7 +73,8 @@ impl<N: RunName> Piece<N> {
     /// Its numbers.
     pub fn values(&self) -> &[i32]
         ensures values { result.now ≡ self.now.values }
-        ensures numbers { result.now ≡ piece_numbers N.run N.layout self.now.frame self.now.field self.now.patch }
+        ensures numbers { result.now
+            ≡ piece_numbers N.run N.layout self.now.frame self.now.field self.now.patch }
     {
         self.values.as_slice()
     }

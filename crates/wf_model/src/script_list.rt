@@ -1,27 +1,26 @@
 //! The items of a run, in order.
 //!
-//! First comes a frame of each stream that domain 1 uses, unless it resumed, and then domain 1's steps. A step of a
-//! domain has the starts of nests, the table, each nest that has started (its force, its own steps and its feedback),
-//! the frames that are due, and after a step of domain 1 the restart frames that are due. Domains are numbered from 1,
-//! steps from 1, streams and items of the table from 0; times are in seconds from domain 1's start.
+//! First comes a frame of each stream that domain 1 uses, unless it resumed, and then domain 1's
+//! steps. A step of a domain has the starts of nests, the table, each nest that has started (its
+//! force, its own steps and its feedback), the frames that are due, and after a step of domain 1
+//! the restart frames that are due. Domains are numbered from 1, steps from 1, streams and items of
+//! the table from 0; times are in seconds from domain 1's start.
 
-ghost use Rattle.std.specs.Prelude.{◌≡◌, ◌+◌, ◌*◌, ◌^◌, ◌<◌, ◌≤◌, ◌==◌, ◌||◌, nat_lt, ◌++◌, ◌∷◌, [], length, OnOk, IfOk, if◌then◌else◌, flat_map};
+ghost use Rattle.std.specs.Prelude.{◌≡◌, ◌+◌, ◌*◌, ◌^◌, ◌<◌, ◌≤◌, ◌==◌, ◌||◌, nat_lt, ◌++◌, ◌∷◌};
+ghost use Rattle.std.specs.Prelude.{[], length, OnOk, IfOk, if◌then◌else◌, flat_map};
 ghost use Rattle.std.specs.List.{range_with_len};
 ghost use Rattle.wf_model.specs.Plans.{begin_of, domain_of, domains_of};
-ghost use Rattle.wf_model.specs.Script.{begin_time, due_frames, entry, has_started_by, interval, is_due, not_before, restart_frames, script_of, start_frames, starts, starts_at, step_of, steps_by, table};
+ghost use Rattle.wf_model.specs.Script.{begin_time, due_frames, entry, has_started_by, interval};
+ghost use Rattle.wf_model.specs.Script.{is_due, not_before, restart_frames, script_of};
+ghost use Rattle.wf_model.specs.Script.{start_frames, starts, starts_at, step_of, steps_by, table};
 ghost use Rattle.wf_model.specs.ScriptParts.{IsCounted, is_nest_of, nest_start, nest_step};
 ghost use Rattle.wf_model.specs.Sound.{IsDomain};
 
 use crate::initial::Begin;
+use crate::limits::{RESTART_STREAM, STREAMS};
 use crate::plan::{Domain, Plan};
 use crate::script::{Act, Entry};
 use std::alloc::{AllocError, Global};
-
-/// The streams that a domain's frames belong to.
-const STREAMS: u32 = 10;
-
-/// The number of the stream of restart files.
-const RESTART_STREAM: u32 = 10;
 
 /// What a script is made of: a plan, and how its domains begin.
 #[derive(Clone, Copy)]
@@ -59,7 +58,8 @@ fn entry_of(domain: u32, step: u64, time: u64, act: Act) -> Entry
 
 /// Adds an item where it is wanted.
 fn push_if(entries: &mut Vec<Entry>, wanted: bool, item: Entry) -> Result<(), AllocError>
-    ensures { OnOk result (entries.new.items ≡ entries.old.items ++ (if wanted then item ∷ [] else [])) }
+    ensures { OnOk result
+        (entries.new.items ≡ entries.old.items ++ (if wanted then item ∷ [] else [])) }
 {
     if !wanted {
         return Ok(());
@@ -147,7 +147,8 @@ impl ScriptSource<'_> {
     /// Whether a domain has a restart frame at a time: it resumed, or began before.
     fn is_there(&self, number: u32, time: u64) -> bool
         requires { IsDomain self.now.plan.now number }
-        ensures { result ≡ ((begin_of self.now.begins.now number).resumed || nat_lt (begin_time self.now.plan.now self.now.begins.now number) time) }
+        ensures { result ≡ ((begin_of self.now.begins.now number).resumed
+            || nat_lt (begin_time self.now.plan.now self.now.begins.now number) time) }
     {
         self.begin(number).resumed || self.begin_of_steps(number) < time
     }
@@ -209,8 +210,8 @@ impl ScriptSource<'_> {
         Ok(())
     }
 
-    /// A restart frame of each domain that has started, where they are due after this step of a domain, and it is
-    /// domain 1.
+    /// A restart frame of each domain that has started, where they are due after this step of a
+    /// domain, and it is domain 1.
     fn push_restart_frames(
         &self,
         entries: &mut Vec<Entry>,
@@ -220,7 +221,8 @@ impl ScriptSource<'_> {
     ) -> Result<(), AllocError>
         requires { time ≤ 2 ^ 62 }
         ensures { OnOk result (entries.new.items ≡ entries.old.items
-            ++ (if number == 1 then restart_frames self.now.plan.now self.now.begins.now step time else [])) }
+            ++ (if number == 1
+            then restart_frames self.now.plan.now self.now.begins.now step time else [])) }
     {
         if number != 1 {
             return Ok(());
@@ -236,7 +238,8 @@ impl ScriptSource<'_> {
         Ok(())
     }
 
-    /// The start of a domain and its frames, where it is a nest of another one that starts at this time.
+    /// The start of a domain and its frames, where it is a nest of another one that starts at
+    /// this time.
     fn push_nest_start(
         &self,
         entries: &mut Vec<Entry>,
@@ -274,7 +277,8 @@ impl ScriptSource<'_> {
         Ok(())
     }
 
-    /// One step of a domain, which begins at this time, with those of the nests at most so many below it.
+    /// One step of a domain, which begins at this time, with those of the nests at most so many
+    /// below it.
     #[cycle(step)]
     fn push_step(
         &self,
@@ -313,7 +317,8 @@ impl ScriptSource<'_> {
         requires domain { IsDomain self.now.plan.now number }
         requires early { time + (domain_of self.now.plan.now number).seconds ≤ 2 ^ 62 }
         ensures { OnOk result (entries.new.items ≡ entries.old.items
-            ++ flat_map (nest_step self.now.plan.now self.now.begins.now depth number step time) (domains_of self.now.plan.now)) }
+            ++ flat_map (nest_step self.now.plan.now self.now.begins.now depth number step time)
+            (domains_of self.now.plan.now)) }
     {
         for nest in 1..self.domain_count() + 1 {
             self.push_nest(entries, depth, number, step, time, nest)?;
@@ -321,8 +326,8 @@ impl ScriptSource<'_> {
         Ok(())
     }
 
-    /// The force, the steps and the feedback of a domain in a step of another one, where it is a nest of that one and
-    /// has started.
+    /// The force, the steps and the feedback of a domain in a step of another one, where it is a
+    /// nest of that one and has started.
     #[cycle(step)]
     fn push_nest(
         &self,
@@ -361,9 +366,12 @@ impl ScriptSource<'_> {
         time: u64,
     ) -> Result<(), AllocError>
         requires domain { IsDomain self.now.plan.now nest }
-        requires early { time + (domain_of self.now.plan.now nest).seconds * (domain_of self.now.plan.now nest).time_ratio ≤ 2 ^ 62 }
+        requires early { time + (domain_of self.now.plan.now nest).seconds
+            * (domain_of self.now.plan.now nest).time_ratio ≤ 2 ^ 62 }
         ensures { OnOk result (entries.new.items ≡ entries.old.items
-            ++ flat_map (λ n. step_of self.now.plan.now self.now.begins.now depth nest (time + n * (domain_of self.now.plan.now nest).seconds)) (range_with_len 0 (domain_of self.now.plan.now nest).time_ratio)) }
+            ++ flat_map (λ n. step_of self.now.plan.now self.now.begins.now depth nest
+            (time + n * (domain_of self.now.plan.now nest).seconds))
+            (range_with_len 0 (domain_of self.now.plan.now nest).time_ratio)) }
     {
         let seconds = self.domain(nest).seconds;
         for n in 0..u64::from(self.domain(nest).time_ratio) {
@@ -375,7 +383,8 @@ impl ScriptSource<'_> {
     /// The frames at domain 1's start, unless it resumed.
     fn push_first_start(&self, entries: &mut Vec<Entry>) -> Result<(), AllocError>
         ensures { OnOk result (entries.new.items ≡ entries.old.items
-            ++ (if (begin_of self.now.begins.now 1).resumed then [] else start_frames self.now.plan.now self.now.begins.now 1 0)) }
+            ++ (if (begin_of self.now.begins.now 1).resumed then []
+            else start_frames self.now.plan.now self.now.begins.now 1 0)) }
     {
         if self.begin(1).resumed {
             return Ok(());
@@ -387,7 +396,9 @@ impl ScriptSource<'_> {
     fn push_steps(&self, entries: &mut Vec<Entry>) -> Result<(), AllocError>
         requires { self.now.plan.now.steps * (domain_of self.now.plan.now 1).seconds ≤ 2 ^ 62 }
         ensures { OnOk result (entries.new.items ≡ entries.old.items
-            ++ flat_map (λ n. step_of self.now.plan.now self.now.begins.now (length self.now.plan.now.domains) 1 (n * (domain_of self.now.plan.now 1).seconds)) (range_with_len 0 self.now.plan.now.steps)) }
+            ++ flat_map (λ n. step_of self.now.plan.now self.now.begins.now
+            (length self.now.plan.now.domains) 1 (n * (domain_of self.now.plan.now 1).seconds))
+            (range_with_len 0 self.now.plan.now.steps)) }
     {
         let seconds = self.domain(1).seconds;
         for n in 0..self.plan.steps {

@@ -2,7 +2,8 @@
 use Rattle.std.specs.Prelude.{ℕ, ◌==◌, ◌≤◌, Bool, true, if◌then◌else◌}
 use Rattle.wf_model.specs.Letters.{Text}
 use Rattle.wf_model.specs.Lines.{is_blank}
-use Rattle.wf_model.specs.NamelistTokens.{Where, line_begins, passing, in_group, in_comment, Scanned, begin_token, group_token, is_gap, scanned}
+use Rattle.wf_model.specs.NamelistTokens.{Where, line_begins, passing, in_group, in_comment}
+use Rattle.wf_model.specs.NamelistTokens.{Scanned, begin_token, group_token, is_gap, scanned}
 use Rattle.wf_namelist.specs.declared.place.Place.{Place}
 use Rattle.wf_namelist.specs.declared.place.Place.TheVariants as places
 use Rattle.wf_namelist.specs.declared.token.Begun.{Begun}

@@ -1,10 +1,12 @@
 -- What stands at a place of an item's values, one turn of their loop.
-use Rattle.std.specs.Prelude.{Bool, false, not, List, [], ◌∷◌, Result, Ok, is_some, drop, if◌then◌else◌}
+use Rattle.std.specs.Prelude.{Bool, false, not, List, [], ◌∷◌, Result, Ok, is_some, drop}
+use Rattle.std.specs.Prelude.{if◌then◌else◌}
 use Rattle.wf_model.specs.declared.namelist.Value.{Value}
 use Rattle.wf_model.specs.declared.namelist.NamelistFault.{NamelistFault}
 use Rattle.wf_model.specs.declared.namelist.NamelistKind.TheVariants.{UnclosedGroup, NullValue}
 use Rattle.wf_model.specs.Letters.{Text}
-use Rattle.wf_model.specs.Namelist.{Tokens, Found, Item, here, is_comma, is_outside, is_slash, item_name, named_item, refuse, values_here}
+use Rattle.wf_model.specs.Namelist.{Tokens, Found, Item, here, is_comma, is_outside, is_slash}
+use Rattle.wf_model.specs.Namelist.{item_name, named_item, refuse, values_here}
 use Rattle.wf_model.specs.Reading.{◌>>=◌}
 use Rattle.wf_namelist.specs.declared.item.Turn.{Turn}
 use Rattle.wf_namelist.specs.declared.item.Turn.TheVariants as turns
@@ -36,7 +38,8 @@ abbrev pub turn_at : Bool → Tokens → Result Seen NamelistFault
 turn_at behind_value ts =
     if is_outside (here ts).sort then refuse ts UnclosedGroup
     else (if is_slash (here ts).sort then Ok ends
-    else (item_name ts >>= λ name. if is_some name then Ok ends else value_or_comma behind_value ts))
+    else (item_name ts >>= λ name.
+    if is_some name then Ok ends else value_or_comma behind_value ts))
 
 -- the item that begins here
 abbrev pub item_at : Text → Tokens → Found Item

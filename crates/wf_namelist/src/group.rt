@@ -25,7 +25,8 @@ fn group_items(
     first: usize,
     most: usize,
 ) -> Result<Items, NamelistError>
-    ensures { Gives (λ r. (r.0.items, drop r.1 tokens.now)) fault_of result (group_items most group.now (drop first tokens.now)) }
+    ensures { Gives (λ r. (r.0.items, drop r.1 tokens.now)) fault_of result
+        (group_items most group.now (drop first tokens.now)) }
 {
     let mut items = Vec::new(alloc);
     let mut at = first;
@@ -51,7 +52,8 @@ fn named_group(
     at: usize,
 ) -> Result<Items, NamelistError>
     requires { IsTrue (is_name name.now) }
-    ensures { Gives (λ r. (r.0.items, drop r.1 tokens.now)) fault_of result (group_items (length (drop at tokens.now)) name.now (rest (drop at tokens.now))) }
+    ensures { Gives (λ r. (r.0.items, drop r.1 tokens.now)) fault_of result
+        (group_items (length (drop at tokens.now)) name.now (rest (drop at tokens.now))) }
 {
     let group = Name::from_vec(Vec::from_slice(alloc, name)?);
     let most = tokens.len().saturating_sub(at);
@@ -65,7 +67,8 @@ fn group_at(
     at: usize,
 ) -> Result<Option<Items>, NamelistError>
     requires { IsTrue (list_all is_named tokens.now) }
-    ensures { Gives (option_map (λ r. (r.0.items, drop r.1 tokens.now))) fault_of result (group_at (drop at tokens.now)) }
+    ensures { Gives (option_map (λ r. (r.0.items, drop r.1 tokens.now))) fault_of result
+        (group_at (drop at tokens.now)) }
 {
     match sort_at(tokens, at) {
         Some(Sort::GroupBegins(name)) => {

@@ -118,7 +118,8 @@ fn some_values(
     tokens: &[NamelistToken],
     at: usize,
 ) -> Result<Values, NamelistError>
-    ensures { Gives (λ r. (r.0.items, drop r.1 tokens.now)) fault_of result (some_value values.items (drop at tokens.now)) }
+    ensures { Gives (λ r. (r.0.items, drop r.1 tokens.now)) fault_of result
+        (some_value values.items (drop at tokens.now)) }
 {
     if values.is_empty() {
         Err(refused(tokens, at, NamelistKind::NullValue))
@@ -134,7 +135,8 @@ fn values(
     first: usize,
     most: usize,
 ) -> Result<Values, NamelistError>
-    ensures { Gives (λ r. (r.0.items, drop r.1 tokens.now)) fault_of result (values most [] false (drop first tokens.now)) }
+    ensures { Gives (λ r. (r.0.items, drop r.1 tokens.now)) fault_of result
+        (values most [] false (drop first tokens.now)) }
 {
     let mut values = Vec::new(alloc);
     let mut after_comma = false;
@@ -157,13 +159,6 @@ fn values(
     some_values(values, tokens, at)
 }
 
-/// A copy of a name.
-fn copied(alloc: Global, name: &Name) -> Result<Name, AllocError>
-    ensures { IfOk result (λ n. n ≡ name.now) }
-{
-    Ok(Name::from_vec(Vec::from_slice(alloc, name.as_slice())?))
-}
-
 /// The item that begins here, and the place behind it.
 pub(crate) fn item_at(
     alloc: Global,
@@ -171,7 +166,8 @@ pub(crate) fn item_at(
     tokens: &[NamelistToken],
     at: usize,
 ) -> Result<(Item, usize), NamelistError>
-    ensures { Gives (λ r. (r.0, drop r.1 tokens.now)) fault_of result (item_at group.now (drop at tokens.now)) }
+    ensures { Gives (λ r. (r.0, drop r.1 tokens.now)) fault_of result
+        (item_at group.now (drop at tokens.now)) }
 {
     let Some(name) = item_name(alloc, tokens, at)? else {
         return Err(refused(tokens, at, NamelistKind::BadValue));
@@ -179,6 +175,6 @@ pub(crate) fn item_at(
     let first = after(tokens, after(tokens, at));
     let most = tokens.len().saturating_sub(at);
     let (values, next) = values(alloc, tokens, first, most)?;
-    let group = copied(alloc, group)?;
+    let group = group.copy(alloc)?;
     Ok(((group, name, List::from_vec(values)), next))
 }

@@ -1,8 +1,8 @@
 //! The namelist of a run, as Fortran writes it.
 //!
-//! A text is scanned to its tokens, which know their lines; groups, items and values are read over the
-//! tokens; and of items that are repeated the last are kept, found by a hash set. Each step takes time
-//! linear in the text.
+//! A text is scanned to its tokens, which know their lines; groups, items and values are read over
+//! the tokens; and of items that are repeated the last are kept, found by a hash set. Each step
+//! takes time linear in the text.
 #![tactic(auto)]
 
 mod error;

@@ -4,7 +4,8 @@
 
 ghost use Rattle.std.specs.Prelude.{◌≡◌, Some, drop};
 ghost use Rattle.std.specs.Option.{option_copied};
-ghost use Rattle.wf_model.specs.Namelist.{here, is_comma, is_equals, is_outside, is_parenthesis, is_parted, is_slash, rest};
+ghost use Rattle.wf_model.specs.Namelist.{here, is_comma, is_equals, is_outside, is_parenthesis};
+ghost use Rattle.wf_model.specs.Namelist.{is_parted, is_slash, rest};
 ghost use Rattle.wf_namelist.specs.NamelistError.{fault_of};
 ghost use Rattle.wf_namelist.specs.Places.{refusal, sort_of};
 

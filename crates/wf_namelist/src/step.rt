@@ -3,7 +3,8 @@
 ghost use Rattle.std.specs.Prelude.{◌≡◌, ◌==◌, IfOk, length, if◌then◌else◌};
 ghost use Rattle.wf_model.specs.Lines.{is_blank, begins_with};
 ghost use Rattle.wf_model.specs.NamelistTokens.{is_gap, line_begins, in_group};
-ghost use Rattle.wf_namelist.specs.Scanning.{HasRoom, line_ends, passes, turn_at, turn_of, where_of};
+ghost use Rattle.wf_namelist.specs.Scanning.{HasRoom, line_ends, passes, turn_at, turn_of};
+ghost use Rattle.wf_namelist.specs.Scanning.{where_of};
 
 use crate::place::Place;
 use crate::token::{Begun, begin_token, group_token};
@@ -59,7 +60,8 @@ fn line_step(alloc: Global, b: u8, after: &[u8]) -> Result<Step, AllocError>
 
 /// Bytes that are passed over up to the line's end, and where the next line begins.
 fn passed(b: u8, place: Place, next: Place) -> Step
-    ensures step { turn_of result ≡ (if b == 10 then line_ends (where_of next) else passes (where_of place)) }
+    ensures step { turn_of result
+        ≡ (if b == 10 then line_ends (where_of next) else passes (where_of place)) }
     ensures bound { HasRoom result 0 }
 {
     if b == b'\n' {

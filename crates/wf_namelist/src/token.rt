@@ -3,7 +3,8 @@
 ghost use Rattle.std.specs.Prelude.{◌≡◌, ◌≤◌, ◌≢◌, ◌∷◌, IfOk, length};
 ghost use Rattle.std.specs.List.{prefix_len, take_while};
 ghost use Rattle.wf_model.specs.Letters.{is_name_byte};
-ghost use Rattle.wf_model.specs.NamelistTokens.{begin_token, group_token, in_group, is_word_byte, quoted, scanned, text_token};
+ghost use Rattle.wf_model.specs.NamelistTokens.{begin_token, group_token, in_group, is_word_byte};
+ghost use Rattle.wf_model.specs.NamelistTokens.{quoted, scanned, text_token};
 ghost use Rattle.wf_model.specs.declared.namelist.Sort.TheVariants.{Word};
 ghost use Rattle.wf_namelist.specs.Scanning.{token_of, where_of};
 
@@ -21,7 +22,8 @@ pub(crate) struct Begun {
     pub(crate) next: Place,
 }
 
-/// Whether a word goes on with this byte: blanks, line ends and `,` `/` `!` `=` `&` `(` `'` `"` end it.
+/// Whether a word goes on with this byte: blanks, line ends and `,` `/` `!` `=` `&` `(` `'` `"`
+/// end it.
 fn is_word_byte(b: u8) -> bool
     ensures { result ≡ is_word_byte b }
 {
@@ -88,7 +90,8 @@ pub(crate) fn begin_token(alloc: Global, after: &[u8]) -> Result<Begun, AllocErr
 
 /// The word that begins with a byte and goes on in the bytes after it.
 fn word_token(alloc: Global, first: u8, after: &[u8]) -> Result<Begun, AllocError>
-    ensures token { IfOk result (λ t. token_of t ≡ scanned (Word (first ∷ take_while is_word_byte after.now)) (prefix_len is_word_byte after.now) in_group) }
+    ensures token { IfOk result (λ t. token_of t ≡ scanned (Word
+        (first ∷ take_while is_word_byte after.now)) (prefix_len is_word_byte after.now) in_group) }
     ensures bound { IfOk result (λ t. t.size ≤ length after.now) }
 {
     let size = word_len(after);

@@ -1,10 +1,12 @@
 //! The values of a bare word, and those that begin at a token.
 
-ghost use Rattle.std.specs.Prelude.{◌≡◌, ◌<◌, ◌∷◌, [], IfOk, IfSome, drop, length, position, replicate};
+ghost use Rattle.std.specs.Prelude.{◌≡◌, ◌<◌, ◌∷◌, [], IfOk, IfSome, drop, length, position};
+ghost use Rattle.std.specs.Prelude.{replicate};
 ghost use Rattle.std.specs.Bool.{then_some};
 ghost use Rattle.wf_model.specs.Letters.{digits_value, is_number_within};
 ghost use Rattle.wf_model.specs.ValueForms.{is_whole};
-ghost use Rattle.wf_model.specs.Namelist.{here, is_star, parted, repeated, repeated_text, values_here, word_value, word_values};
+ghost use Rattle.wf_model.specs.Namelist.{here, is_star, parted, repeated, repeated_text};
+ghost use Rattle.wf_model.specs.Namelist.{values_here, word_value, word_values};
 ghost use Rattle.wf_model.specs.Reading.{Gives};
 ghost use Rattle.wf_namelist.specs.NamelistError.{fault_of};
 ghost use Rattle.wf_namelist.specs.Words.{other_value};
@@ -12,33 +14,12 @@ ghost use Rattle.wf_namelist.specs.Words.{other_value};
 use crate::error::NamelistError;
 use crate::reading::{after, is_parted, refused, sort_at};
 use std::alloc::{AllocError, Global};
+use wf_model::limits::NAMELIST_VALUES;
 use wf_model::{Bytes, NamelistKind, NamelistToken, Sort, Value};
 use wf_text::{digits_up_to, is_decimal, is_digits, is_false_word, is_true_word, whole};
 
-/// A value may be repeated so many times at most.
-const MOST_REPEATS: u128 = 21;
-
 /// Values, and the place of the token behind them.
 pub(crate) type Values = (Vec<Value>, usize);
-
-/// A copy of bytes.
-fn copied(alloc: Global, bytes: &[u8]) -> Result<Bytes, AllocError>
-    ensures { IfOk result (λ b. b ≡ bytes.now) }
-{
-    Ok(Bytes::from_vec(Vec::from_slice(alloc, bytes)?))
-}
-
-/// A copy of a value.
-fn copy_of(alloc: Global, value: &Value) -> Result<Value, AllocError>
-    ensures { IfOk result (λ v. v ≡ value.now) }
-{
-    match value {
-        Value::Int(number) => Ok(Value::Int(*number)),
-        Value::Decimal(text) => Ok(Value::Decimal(copied(alloc, text.as_slice())?)),
-        Value::Logical(truth) => Ok(Value::Logical(*truth)),
-        Value::Text(text) => Ok(Value::Text(copied(alloc, text.as_slice())?)),
-    }
-}
 
 /// A value so many times.
 fn copies(alloc: Global, count: usize, value: &Value) -> Result<Vec<Value>, AllocError>
@@ -46,7 +27,7 @@ fn copies(alloc: Global, count: usize, value: &Value) -> Result<Vec<Value>, Allo
 {
     let mut values = Vec::new(alloc);
     for _ in 0..count {
-        values.push(copy_of(alloc, value)?)?;
+        values.push(value.copy(alloc)?)?;
     }
     Ok(values)
 }
@@ -68,7 +49,8 @@ fn parted(
     from: usize,
     next: usize,
 ) -> Result<Values, NamelistError>
-    ensures { Gives (λ r. (r.0.items, drop r.1 tokens.now)) fault_of result (parted values.items (drop from tokens.now) (drop next tokens.now)) }
+    ensures { Gives (λ r. (r.0.items, drop r.1 tokens.now)) fault_of result
+        (parted values.items (drop from tokens.now) (drop next tokens.now)) }
 {
     if is_parted(tokens, next) {
         Ok((values, next))
@@ -87,7 +69,7 @@ fn other_value(
     ensures { Gives (λ v. v) fault_of result (other_value word.now (drop at tokens.now)) }
 {
     if is_decimal(word) {
-        Ok(Value::Decimal(copied(alloc, word)?))
+        Ok(Value::Decimal(Bytes::copy_of(alloc, word)?))
     } else if is_true_word(word) {
         Ok(Value::Logical(true))
     } else if is_false_word(word) {
@@ -133,11 +115,12 @@ fn repeated_text(
     from: usize,
     at: usize,
 ) -> Result<Values, NamelistError>
-    ensures { Gives (λ r. (r.0.items, drop r.1 tokens.now)) fault_of result (repeated_text count (here (drop at tokens.now)).sort (drop from tokens.now) (drop at tokens.now)) }
+    ensures { Gives (λ r. (r.0.items, drop r.1 tokens.now)) fault_of result (repeated_text count
+        (here (drop at tokens.now)).sort (drop from tokens.now) (drop at tokens.now)) }
 {
     match sort_at(tokens, at) {
         Some(Sort::Text(text)) => {
-            let value = Value::Text(copied(alloc, text.as_slice())?);
+            let value = Value::Text(text.copy(alloc)?);
             parted(
                 copies(alloc, count, &value)?,
                 tokens,
@@ -158,7 +141,8 @@ fn repeated(
     tokens: &[NamelistToken],
     at: usize,
 ) -> Result<Values, NamelistError>
-    ensures { Gives (λ r. (r.0.items, drop r.1 tokens.now)) fault_of result (repeated count word.now (drop at tokens.now)) }
+    ensures { Gives (λ r. (r.0.items, drop r.1 tokens.now)) fault_of result
+        (repeated count word.now (drop at tokens.now)) }
 {
     let next = after(tokens, at);
     if !word.is_empty() {
@@ -183,7 +167,7 @@ fn star_at(word: &[u8]) -> Option<usize>
 fn repeats(digits: &[u8]) -> Option<usize>
     ensures { result ≡ then_some (is_number_within 1 21 digits.now) (digits_value digits.now) }
 {
-    match digits_up_to(digits, MOST_REPEATS) {
+    match digits_up_to(digits, NAMELIST_VALUES) {
         Some(count) if 1 <= count => Some(count as usize),
         _ => None,
     }
@@ -196,7 +180,8 @@ fn word_values(
     tokens: &[NamelistToken],
     at: usize,
 ) -> Result<Values, NamelistError>
-    ensures { Gives (λ r. (r.0.items, drop r.1 tokens.now)) fault_of result (word_values word.now (drop at tokens.now)) }
+    ensures { Gives (λ r. (r.0.items, drop r.1 tokens.now)) fault_of result
+        (word_values word.now (drop at tokens.now)) }
 {
     match star_at(word) {
         None => {
@@ -220,12 +205,13 @@ pub(crate) fn values_here(
     tokens: &[NamelistToken],
     at: usize,
 ) -> Result<Values, NamelistError>
-    ensures { Gives (λ r. (r.0.items, drop r.1 tokens.now)) fault_of result (values_here (here (drop at tokens.now)).sort (drop at tokens.now)) }
+    ensures { Gives (λ r. (r.0.items, drop r.1 tokens.now)) fault_of result
+        (values_here (here (drop at tokens.now)).sort (drop at tokens.now)) }
 {
     match sort_at(tokens, at) {
         Some(Sort::Word(word)) => word_values(alloc, word.as_slice(), tokens, at),
         Some(Sort::Text(text)) => {
-            let value = Value::Text(copied(alloc, text.as_slice())?);
+            let value = Value::Text(text.copy(alloc)?);
             parted(one(alloc, value)?, tokens, at, after(tokens, at))
         }
         Some(Sort::OpenText) => Err(refused(tokens, at, NamelistKind::UnclosedText)),

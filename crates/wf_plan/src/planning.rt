@@ -24,19 +24,20 @@ fn item_fault(alloc: Global, plan: &Plan, extents: &[i64]) -> Result<Option<Plan
     }
 }
 
-/// The plan of a config and a stencil table, where stored functions have these names, or the first of its tests that
-/// fails.
+/// The plan of a config and a stencil table, where stored functions have these names, or the first
+/// of its tests that fails.
 ///
-/// First comes what isn't built, by the order in which it will be: a `max_dom` above 1, `restart`, a
-/// `restart_interval` above 0, an `auxhist` stream's interval above 0. Then come dates, the end of the run past the year
-/// 9999, parents, ratios, sizes, edges and periods of nests, their steps, the run's length in steps, the nests' starts and the
-/// intervals of streams, each for all domains; then reads of phases past the levels, for all domains, and past an
-/// edge that isn't periodic; and last the limits, in the order levels, extents in z, cells, items of the script and
-/// bytes of files. Domains count from 1; fields, levels and items from 0 in Registry and table order. The rules of
-/// nests, steps and intervals are WRF's, their order and the limits this project's own.
+/// First comes what isn't built, by the order in which it will be: a `max_dom` above 1, `restart`,
+/// a `restart_interval` above 0, an `auxhist` stream's interval above 0. Then come dates, the end
+/// of the run past the year 9999, parents, ratios, sizes, edges and periods of nests, their steps,
+/// the run's length in steps, the nests' starts and the intervals of streams, each for all domains;
+/// then reads of phases past the levels, for all domains, and past an edge that isn't periodic; and
+/// last the limits, in the order levels, extents in z, cells, items of the script and bytes of
+/// files. Domains count from 1; fields, levels and items from 0 in Registry and table order. The
+/// rules of nests, steps and intervals are WRF's, their order and the limits this project's own.
 ///
-/// The error `Memory` is want of memory. It also comes where a number or a name doesn't fit its type, which is so for no
-/// config of a Registry that was read and a namelist that was bound to it.
+/// The error `Memory` is want of memory. It also comes where a number or a name doesn't fit its
+/// type, which is so for no config of a Registry that was read and a namelist that was bound to it.
 pub fn plan(
     alloc: Global,
     config: &Config,

@@ -7,7 +7,9 @@ use Rattle.wf_model.specs.declared.plan.Plan.{Plan}
 use Rattle.wf_model.specs.declared.plan_fault.PlanFault.{PlanFault}
 use Rattle.wf_model.specs.Reading.{first_fault}
 use Rattle.wf_model.specs.PlanDomains.{amount, frames_names, minutes}
-use Rattle.wf_model.specs.PlanTests.{Unbuilt, unbuilt, unbuilt_fault, interval_faults, is_above, is_set, nests_of, parent_fault, ratio_fault, size_fault, edge_fault, periodic_fault, step_fault, start_fault}
+use Rattle.wf_model.specs.PlanTests.{Unbuilt, unbuilt, unbuilt_fault, interval_faults, is_above}
+use Rattle.wf_model.specs.PlanTests.{is_set, nests_of, parent_fault, ratio_fault, size_fault}
+use Rattle.wf_model.specs.PlanTests.{edge_fault, periodic_fault, step_fault, start_fault}
 use Rattle.wf_plan_domains.specs.declared.built.Asks.{Asks}
 use Rattle.wf_plan_domains.specs.declared.built.Asks.TheVariants as asks
 use Rattle.wf_plan_domains.specs.declared.built.Feature.{Feature}

@@ -28,7 +28,8 @@ pub(crate) struct Feature {
     pub asks: Asks,
 }
 
-/// What isn't built, in the order in which it is refused: nests, and then restart and auxiliary streams.
+/// What isn't built, in the order in which it is refused: nests, and then restart and
+/// auxiliary streams.
 fn features() -> [Feature; 12]
     ensures { map unbuilt_of result ≡ unbuilt }
 {
@@ -128,7 +129,8 @@ fn feature_fault(alloc: Global, config: &Config, feature: &Feature) -> Found
 
 /// The first fault of a feature.
 fn first_fault(alloc: Global, config: &Config, features: &[Feature]) -> Found
-    ensures { IfOk result (λ f. f ≡ first_fault (map (λ x. unbuilt_fault config.now (unbuilt_of x)) features.now)) }
+    ensures { IfOk result
+        (λ f. f ≡ first_fault (map (λ x. unbuilt_fault config.now (unbuilt_of x)) features.now)) }
 {
     for feature in features {
         let fault = feature_fault(alloc, config, feature)?;

@@ -2,7 +2,8 @@
 
 ghost use Rattle.std.specs.Prelude.{◌≡◌, ◌-◌, ◌≤◌, IfOk, slice_index_or};
 ghost use Rattle.wf_model.specs.Dates.{seconds_between};
-ghost use Rattle.wf_model.specs.PlanDomains.{amount, domain_from, domain_total, domains_to, of_nest, start_moment, step_seconds};
+ghost use Rattle.wf_model.specs.PlanDomains.{amount, domain_from, domain_total, domains_to};
+ghost use Rattle.wf_model.specs.PlanDomains.{of_nest, start_moment, step_seconds};
 ghost use Rattle.wf_model.specs.Plans.{no_domain};
 
 use crate::numbers::{flag, quotient, small_amount};
@@ -61,7 +62,8 @@ fn step_seconds(config: &Config, before: &[Domain], domain: u32) -> Result<u64, 
 
 /// The seconds from domain 1's start to a domain's.
 fn begins(config: &Config, domain: u32) -> Result<i64, AllocError>
-    ensures { IfOk result (λ t. t ≡ seconds_between (start_moment config.now 1) (start_moment config.now domain)) }
+    ensures { IfOk result
+        (λ t. t ≡ seconds_between (start_moment config.now 1) (start_moment config.now domain)) }
 {
     let first = start_stamp(config, 1)?;
     let own = start_stamp(config, domain)?;

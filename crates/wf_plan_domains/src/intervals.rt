@@ -13,10 +13,8 @@ use crate::numbers::{is_multiple, small_amount};
 use crate::shape::shape_at;
 use crate::streams::interval_names;
 use std::alloc::AllocError;
+use wf_model::limits::RESTART_STREAM;
 use wf_model::{Config, Plan, PlanFault};
-
-/// The number that an interval fault has for restart files.
-const RESTART: u32 = 10;
 
 /// The fault of an interval, in minutes, that the domain's steps do not fill.
 fn interval_fault(plan: &Plan, domain: u32, stream: u32, minutes: u32) -> Option<PlanFault>
@@ -40,7 +38,8 @@ fn minutes_of(config: &Config, domain: u32, stream: u32) -> Result<u32, AllocErr
 
 /// The first stream's fault.
 fn streams_fault(config: &Config, plan: &Plan, domain: u32) -> Found
-    ensures { IfOk result (λ f. f ≡ first_fault (map (λ s. interval_fault plan.now domain s (slice_index (stream_minutes config.now domain) s)) (range_with_len 0 10))) }
+    ensures { IfOk result (λ f. f ≡ first_fault (map (λ s. interval_fault plan.now domain s
+        (slice_index (stream_minutes config.now domain) s)) (range_with_len 0 10))) }
 {
     for stream in 0..10 {
         let minutes = minutes_of(config, domain, stream)?;
@@ -54,10 +53,11 @@ fn streams_fault(config: &Config, plan: &Plan, domain: u32) -> Found
 
 /// The fault of the interval of restart files, which domain 1 has.
 fn restart_fault(config: &Config, plan: &Plan) -> Found
-    ensures { IfOk result (λ f. f ≡ interval_fault plan.now 1 10 (amount config.now (codes "restart_interval") 1)) }
+    ensures { IfOk result
+        (λ f. f ≡ interval_fault plan.now 1 10 (amount config.now (codes "restart_interval") 1)) }
 {
     let minutes = small_amount(config, "restart_interval", 1)?;
-    Ok(interval_fault(plan, 1, RESTART, minutes))
+    Ok(interval_fault(plan, 1, RESTART_STREAM, minutes))
 }
 
 /// A domain's first fault of an interval: of the ten streams, and then of restart files.
@@ -76,7 +76,8 @@ fn domain_fault(config: &Config, plan: &Plan, domain: u32) -> Found
 pub(crate) fn intervals_fault(config: &Config, plan: &Plan, last: u32) -> Found
     requires count { last ≡ length plan.now.domains }
     requires most { last ≤ 8 }
-    ensures { IfOk result (λ f. f ≡ first_fault (flat_map (interval_faults config.now plan.now) (up_to (length plan.now.domains)))) }
+    ensures { IfOk result (λ f. f ≡ first_fault
+        (flat_map (interval_faults config.now plan.now) (up_to (length plan.now.domains)))) }
 {
     for domain in 1..last + 1 {
         let fault = domain_fault(config, plan, domain)?;

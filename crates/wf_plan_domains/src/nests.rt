@@ -2,7 +2,9 @@
 
 ghost use Rattle.std.specs.Prelude.{◌≡◌, ◌≤◌, length, pos};
 ghost use Rattle.std.specs.Int.{int_rem_euclid};
-ghost use Rattle.wf_model.specs.PlanTests.{at_edge, counted_start, edge_fault, is_zero, parent_fault, periodic_fault, ratio_fault, size_fault, start_fault, step_fault};
+ghost use Rattle.wf_model.specs.PlanTests.{at_edge, counted_start, edge_fault, is_zero};
+ghost use Rattle.wf_model.specs.PlanTests.{parent_fault, periodic_fault, ratio_fault, size_fault};
+ghost use Rattle.wf_model.specs.PlanTests.{start_fault, step_fault};
 ghost use Rattle.wf_plan_domains.specs.DomainTests.{nest_fault, nests_fault};
 
 use crate::numbers::{is_multiple, quotient};
@@ -30,7 +32,8 @@ fn ratio_fault(plan: &Plan, nest: u32) -> Option<PlanFault>
     None
 }
 
-/// The fault of a nest that doesn't cover whole cells of its parent, or has another number of levels.
+/// The fault of a nest that doesn't cover whole cells of its parent, or has another number
+/// of levels.
 fn size_fault(plan: &Plan, nest: u32) -> Option<PlanFault>
     ensures { result ≡ size_fault plan.now nest }
 {
@@ -94,8 +97,8 @@ fn step_fault(plan: &Plan, nest: u32) -> Option<PlanFault>
     Some(PlanFault::StepNotWhole { domain: nest })
 }
 
-/// Whether a time, in seconds from domain 1's start, is one of a domain's steps. Where a step takes no time, those
-/// before the start count.
+/// Whether a time, in seconds from domain 1's start, is one of a domain's steps. Where a step takes
+/// no time, those before the start count.
 fn is_step(time: i64, seconds: u64) -> bool
     ensures { result ≡ is_zero (int_rem_euclid time (pos seconds)) }
 {
@@ -113,7 +116,8 @@ fn counted_start(plan: &Plan, time: i64) -> i64
     if plan.restart { time.max(0) } else { time }
 }
 
-/// The fault of a nest that starts at no step of its parent, before its parent, or without restart before domain 1.
+/// The fault of a nest that starts at no step of its parent, before its parent, or without restart
+/// before domain 1.
 fn start_fault(plan: &Plan, nest: u32) -> Option<PlanFault>
     ensures { result ≡ start_fault plan.now nest }
 {
@@ -156,7 +160,8 @@ fn nest_fault(test: NestTest, plan: &Plan, nest: u32) -> Option<PlanFault>
     }
 }
 
-/// What a test of this kind finds of the first nest that fails it. Nests are the domains from 2 to the last.
+/// What a test of this kind finds of the first nest that fails it. Nests are the domains from 2 to
+/// the last.
 pub(crate) fn nests_fault(test: NestTest, plan: &Plan, last: u32) -> Option<PlanFault>
     requires count { last ≡ length plan.now.domains }
     requires most { last ≤ 8 }

@@ -86,21 +86,24 @@ pub(crate) fn domains_fault(config: &Config, plan: &Plan, total: u32) -> Found
     )
 }
 
-/// The plan of a config without field levels and items: its domains, its start and its numbers of steps; or the first
-/// fault.
+/// The plan of a config without field levels and items: its domains, its start and its numbers of
+/// steps; or the first fault.
 ///
-/// Domains are numbered from 1, and streams from 0, where 10 stands for restart files. Steps and starts are in seconds,
-/// the intervals of a config in minutes. A nest's step is its parent's by the ratio of their steps.
+/// Domains are numbered from 1, and streams from 0, where 10 stands for restart files. Steps and
+/// starts are in seconds, the intervals of a config in minutes. A nest's step is its parent's by
+/// the ratio of their steps.
 ///
-/// The faults come in this order, each of the first domain that has it: what isn't built yet (nests, restart, auxiliary
-/// streams); a start at no day of the years 1 to 9999; a run that ends past the year 9999; of nests a parent that is no
-/// domain before, an even ratio, a size that fills no whole cells of the parent or another number of levels, a place at
-/// the parent's edge, a periodic direction, a step that doesn't fill the parent's; a run that steps don't fill; a nest's
-/// start at no step of its parent, before its parent's start, or without restart before domain 1's; and an interval that
-/// steps don't fill, the restart files' behind the streams of domain 1. These rules are this project's own.
+/// The faults come in this order, each of the first domain that has it: what isn't built yet
+/// (nests, restart, auxiliary streams); a start at no day of the years 1 to 9999; a run that ends
+/// past the year 9999; of nests a parent that is no domain before, an even ratio, a size that fills
+/// no whole cells of the parent or another number of levels, a place at the parent's edge, a
+/// periodic direction, a step that doesn't fill the parent's; a run that steps don't fill; a nest's
+/// start at no step of its parent, before its parent's start, or without restart before domain 1's;
+/// and an interval that steps don't fill, the restart files' behind the streams of domain 1. These
+/// rules are this project's own.
 ///
-/// Want of memory may also be told where max_dom isn't 1 to 8, a number passes 32 bits, or an hour, minute or second is
-/// none of a clock, which no config that was bound has.
+/// Want of memory may also be told where max_dom isn't 1 to 8, a number passes 32 bits, or an hour,
+/// minute or second is none of a clock, which no config that was bound has.
 pub fn domain_plan(alloc: Global, config: &Config) -> Result<Plan, PlanError>
     ensures { Gives (λ p. p) fault_of result (domain_plan_of config.now) }
 {

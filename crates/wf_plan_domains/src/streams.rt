@@ -90,7 +90,8 @@ pub(crate) fn intervals(
     domain: u32,
     seconds: u64,
 ) -> Result<List<u64>, AllocError>
-    ensures { IfOk result (λ l. l ≡ map (λ m. m * 60 / seconds) (stream_minutes config.now domain)) }
+    ensures { IfOk result
+        (λ l. l ≡ map (λ m. m * 60 / seconds) (stream_minutes config.now domain)) }
 {
     let minutes = minutes(alloc, config, domain)?;
     let steps = in_steps(alloc, minutes.as_slice(), seconds)?;

@@ -1,11 +1,13 @@
 //! The dimensions of a field.
 
-ghost use Rattle.std.specs.Prelude.{◌≡◌, ◌==◌, ◌∷◌, [], IfOk, drop, if◌then◌else◌, length, pos, slice_index};
+ghost use Rattle.std.specs.Prelude.{◌≡◌, ◌==◌, ◌∷◌, [], IfOk, drop, if◌then◌else◌, length, pos};
+ghost use Rattle.std.specs.Prelude.{slice_index};
 ghost use Rattle.std.specs.Option.{option_copied};
 ghost use Rattle.wf_model.specs.Letters.{digits_value};
 ghost use Rattle.wf_model.specs.Entries.{dimspecs, is_entry};
 ghost use Rattle.wf_model.specs.PlanDomains.{integer};
-ghost use Rattle.wf_model.specs.PlanFields.{dataset_of, dimspec_of, extent_of, last_letter, z_extent, z_letter};
+ghost use Rattle.wf_model.specs.PlanFields.{dataset_of, dimspec_of, extent_of, last_letter};
+ghost use Rattle.wf_model.specs.PlanFields.{z_extent, z_letter};
 ghost use Rattle.wf_plan_fields.specs.LevelFields.{extent_by};
 
 use crate::streams::has_letter;
@@ -63,7 +65,8 @@ pub(crate) fn last_letter(dims: &[u8]) -> u8
 
 /// The name in files of a field's dimension in z; empty without a z letter.
 pub(crate) fn z_name<'a>(config: &'a Config, dims: &[u8]) -> &'a [u8]
-    ensures { result.now ≡ (if length dims.now == 3 then dataset_of (dimspec_of config.now (z_letter dims.now)) else []) }
+    ensures { result.now ≡ (if length dims.now
+        == 3 then dataset_of (dimspec_of config.now (z_letter dims.now)) else []) }
 {
     if dims.len() == 3 {
         dataset_of(config, letter_at(dims, 1))
@@ -106,7 +109,8 @@ fn skipped(word: &[u8], count: usize) -> &[u8]
     }
 }
 
-/// The extent of a dimspec with this how column: e_vert less one, a number, or an rconfig's first value.
+/// The extent of a dimspec with this how column: e_vert less one, a number, or an rconfig's
+/// first value.
 fn extent_by(alloc: Global, config: &Config, how: &[u8]) -> Result<i64, AllocError>
     ensures { IfOk result (λ n. n ≡ extent_by config.now how.now) }
 {
@@ -132,7 +136,8 @@ fn extent_of(alloc: Global, config: &Config, letter: u8) -> Result<i64, AllocErr
     }
 }
 
-/// The extent in z of a field: 1 without a z letter, and one more than the dimspec says where it is staggered in z.
+/// The extent in z of a field: 1 without a z letter, and one more than the dimspec says where it is
+/// staggered in z.
 pub(crate) fn z_extent(
     alloc: Global,
     config: &Config,

@@ -4,8 +4,10 @@ ghost use Rattle.std.specs.Prelude.{◌≡◌, ◌≤◌, ◌+◌, ◌++◌, ◌
 ghost use Rattle.std.specs.List.{enumerate_from};
 ghost use Rattle.wf_model.specs.Io.{io_of, parts_of};
 ghost use Rattle.wf_model.specs.Entries.{entry_levels};
-ghost use Rattle.wf_model.specs.PlanFields.{entry_extents, fields_from, level_field, shown, z_extents};
-ghost use Rattle.wf_plan_fields.specs.LevelFields.{IsShape, extents_of, held_by, level_of, levels_of};
+ghost use Rattle.wf_model.specs.PlanFields.{entry_extents, fields_from, level_field, shown};
+ghost use Rattle.wf_model.specs.PlanFields.{z_extents};
+ghost use Rattle.wf_plan_fields.specs.LevelFields.{IsShape, extents_of, held_by, level_of};
+ghost use Rattle.wf_plan_fields.specs.LevelFields.{levels_of};
 
 use crate::dimensions::{dataset_of, last_letter, letter_at, z_extent, z_name};
 use crate::hooks::hook_id;
@@ -58,12 +60,6 @@ pub(crate) struct Common<'a> {
 struct Made {
     fields: Vec<Field>,
     extents: Vec<i64>,
-}
-
-fn copy_bytes(alloc: Global, bytes: &[u8]) -> Result<Bytes, AllocError>
-    ensures { IfOk result (λ copy. copy ≡ bytes.now) }
-{
-    Ok(Bytes::from_vec(Vec::from_slice(alloc, bytes)?))
 }
 
 /// The name of these bytes; refused where they are none.
@@ -179,18 +175,19 @@ fn level_of(
         up: common.held.up,
         down: common.held.down,
         edge: common.held.edge,
-        x_name: copy_bytes(alloc, common.shape.x_name)?,
-        y_name: copy_bytes(alloc, common.shape.y_name)?,
-        z_name: copy_bytes(alloc, common.shape.z_name)?,
-        description: copy_bytes(alloc, common.description)?,
-        units: copy_bytes(alloc, common.units)?,
+        x_name: Bytes::copy_of(alloc, common.shape.x_name)?,
+        y_name: Bytes::copy_of(alloc, common.shape.y_name)?,
+        z_name: Bytes::copy_of(alloc, common.shape.z_name)?,
+        description: Bytes::copy_of(alloc, common.description)?,
+        units: Bytes::copy_of(alloc, common.units)?,
     })
 }
 
 /// Adds a level, and its extent.
 fn push_level(made: &mut Made, common: &Common, field: Field) -> Result<(), AllocError>
     ensures fields { OnOk result (made.new.fields.items ≡ made.old.fields.items ++ field ∷ []) }
-    ensures extents { OnOk result (made.new.extents.items ≡ made.old.extents.items ++ common.now.shape.extent ∷ []) }
+    ensures extents { OnOk result
+        (made.new.extents.items ≡ made.old.extents.items ++ common.now.shape.extent ∷ []) }
 {
     made.fields.push(field)?;
     made.extents.push(common.shape.extent)?;
@@ -206,8 +203,10 @@ fn push_levels(
     first: u32,
     two: bool,
 ) -> Result<(), AllocError>
-    ensures fields { OnOk result (made.new.fields.items ≡ made.old.fields.items ++ levels_of common.now symbol.now first two) }
-    ensures extents { OnOk result (made.new.extents.items ≡ made.old.extents.items ++ extents_of common.now two) }
+    ensures fields { OnOk result (made.new.fields.items
+        ≡ made.old.fields.items ++ levels_of common.now symbol.now first two) }
+    ensures extents { OnOk result
+        (made.new.extents.items ≡ made.old.extents.items ++ extents_of common.now two) }
 {
     if two {
         let Some(second) = first.checked_add(1) else {
@@ -236,8 +235,11 @@ fn add_entry(
     first: u32,
     entry: &Entry,
 ) -> Result<(), AllocError>
-    ensures fields { OnOk result (made.new.fields.items ≡ made.old.fields.items ++ flat_map (level_field config.now hooks.now entry.now first) (enumerate_from 0 (entry_levels entry.now))) }
-    ensures extents { OnOk result (made.new.extents.items ≡ made.old.extents.items ++ entry_extents config.now entry.now) }
+    ensures fields { OnOk result (made.new.fields.items
+        ≡ made.old.fields.items ++ flat_map (level_field config.now hooks.now entry.now first)
+        (enumerate_from 0 (entry_levels entry.now))) }
+    ensures extents { OnOk result
+        (made.new.extents.items ≡ made.old.extents.items ++ entry_extents config.now entry.now) }
 {
     let Entry::State {
         symbol,
@@ -287,8 +289,10 @@ fn made_of(
     hooks: &[HookName],
     entries: &[Entry],
 ) -> Result<Made, AllocError>
-    ensures fields { IfOk result (λ m. m.fields.items ≡ fields_from config.now hooks.now 0 entries.now) }
-    ensures extents { IfOk result (λ m. m.extents.items ≡ flat_map (entry_extents config.now) entries.now) }
+    ensures fields { IfOk result
+        (λ m. m.fields.items ≡ fields_from config.now hooks.now 0 entries.now) }
+    ensures extents { IfOk result
+        (λ m. m.extents.items ≡ flat_map (entry_extents config.now) entries.now) }
 {
     let mut made = Made {
         fields: Vec::new(alloc),
@@ -307,17 +311,19 @@ fn made_of(
 
 /// The field levels of a config, with these stored functions.
 ///
-/// Levels are numbered from 0 in the order of the fields, which is the Registry's; a field with two levels has them one
-/// behind the other. A level's extent in z is 1 where its field has no z letter. Else it is what the dimspec of the
-/// letter says, and one more where the field is staggered in z: `e_vert` of domain 1 less one, the number of
-/// `constant=`, or the first value of the rconfig of `namelist=`. It may be below 1 here, so it is told with its sign
-/// beside the field's `nz`, which has no sign.
+/// Levels are numbered from 0 in the order of the fields, which is the Registry's; a field with two
+/// levels has them one behind the other. A level's extent in z is 1 where its field has no z
+/// letter. Else it is what the dimspec of the letter says, and one more where the field is
+/// staggered in z: `e_vert` of domain 1 less one, the number of `constant=`, or the first value of
+/// the rconfig of `namelist=`. It may be below 1 here, so it is told with its sign beside the
+/// field's `nz`, which has no sign.
 ///
-/// The error is want of memory; it also comes where an extent or a number of levels doesn't fit its type, where the
-/// text behind `constant=` is no number of 32 bits, or where the name of a level or of a variable is none that a `Name`
-/// can hold, which no config of a Registry that was read has.
+/// The error is want of memory; it also comes where an extent or a number of levels doesn't fit its
+/// type, where the text behind `constant=` is no number of 32 bits, or where the name of a level or
+/// of a variable is none that a `Name` can hold, which no config of a Registry that was read has.
 pub fn levels(alloc: Global, config: &Config, hooks: &[HookName]) -> Result<Levels, AllocError>
-    ensures fields { IfOk result (λ l. l.fields ≡ fields_from config.now hooks.now 0 config.now.fields) }
+    ensures fields { IfOk result
+        (λ l. l.fields ≡ fields_from config.now hooks.now 0 config.now.fields) }
     ensures extents { IfOk result (λ l. l.extents ≡ z_extents config.now) }
 {
     let made = made_of(alloc, config, hooks, config.fields.as_slice())?;

@@ -25,7 +25,8 @@ fn is_fed(part: &Part, purpose: Use) -> bool
 
 /// The last part of this use.
 fn last_fed(parts: &[Part], purpose: Use) -> Option<&Part>
-    ensures { option_copied result ≡ find (λ p. is_fed (letter_of purpose) (part_of p)) (reverse parts.now) }
+    ensures { option_copied result
+        ≡ find (λ p. is_fed (letter_of purpose) (part_of p)) (reverse parts.now) }
 {
     parts.iter().rev().find(|part| is_fed(part, purpose))
 }
@@ -78,10 +79,11 @@ fn id_of(hook: Option<&HookName>) -> Option<u32>
     }
 }
 
-/// The id of the stored function of this use: the last part of its letter names it, or means the usual one; none where
-/// there is no such part or no such function.
+/// The id of the stored function of this use: the last part of its letter names it, or means the
+/// usual one; none where there is no such part or no such function.
 pub(crate) fn hook_id(hooks: &[HookName], parts: &[Part], purpose: Use) -> Option<u32>
-    ensures { result ≡ hook_id hooks.now (is_for purpose) (function_name (usual_of purpose) (last_fed (letter_of purpose) (map part_of parts.now))) }
+    ensures { result ≡ hook_id hooks.now (is_for purpose)
+        (function_name (usual_of purpose) (last_fed (letter_of purpose) (map part_of parts.now))) }
 {
     match last_fed(parts, purpose) {
         Some(part) => id_of(find_hook(hooks, purpose, named_in(usual_of(purpose), part))),

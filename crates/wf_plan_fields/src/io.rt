@@ -1,11 +1,13 @@
 //! The parts of the IO column of a field.
 
-ghost use Rattle.std.specs.Prelude.{◌≡◌, ◌≤◌, ◌<◌, ◌==◌, ◌+◌, ◌-◌, IfOk, IfSome, length, map, position, take_while};
+ghost use Rattle.std.specs.Prelude.{◌≡◌, ◌≤◌, ◌<◌, ◌==◌, ◌+◌, ◌-◌, IfOk, IfSome, length, map};
+ghost use Rattle.std.specs.Prelude.{position, take_while};
 ghost use Rattle.std.specs.List.{before_first, position_or_len};
 ghost use Rattle.std.specs.Char.{is_ascii_digit};
 ghost use Rattle.std.specs.Option.{option_map};
 ghost use Rattle.std.specs.Result.{result_ok};
-ghost use Rattle.wf_model.specs.Io.{function_part, io_from, io_of, io_part, letter_part, parts_of, streams};
+ghost use Rattle.wf_model.specs.Io.{function_part, io_from, io_of, io_part, letter_part, parts_of};
+ghost use Rattle.wf_model.specs.Io.{streams};
 ghost use Rattle.wf_plan_fields.specs.IoParts.{first_part, letter_of, part_of, sized_of};
 
 use std::alloc::{AllocError, Global};
@@ -98,7 +100,8 @@ fn streams(alloc: Global, digits: &[u8]) -> Result<List<u8>, AllocError>
 
 /// `(name)` or `(name:anything)` behind a letter and `=`.
 fn function_part(alloc: Global, purpose: Use, bytes: &[u8]) -> Result<Option<Sized>, AllocError>
-    ensures part { IfOk result (λ p. option_map sized_of p ≡ result_ok (function_part (letter_of purpose) bytes.now)) }
+    ensures part { IfOk result
+        (λ p. option_map sized_of p ≡ result_ok (function_part (letter_of purpose) bytes.now)) }
     ensures bound { IfOk result (λ p. IfSome p (λ s. s.1 ≤ length bytes.now + 1)) }
 {
     let [b'(', ..] = bytes else {
@@ -116,7 +119,8 @@ fn function_part(alloc: Global, purpose: Use, bytes: &[u8]) -> Result<Option<Siz
 
 /// A letter with its function or without, of which these bytes follow the letter.
 fn letter_part(alloc: Global, purpose: Use, after: &[u8]) -> Result<Option<Sized>, AllocError>
-    ensures part { IfOk result (λ p. option_map sized_of p ≡ result_ok (letter_part (letter_of purpose) after.now)) }
+    ensures part { IfOk result
+        (λ p. option_map sized_of p ≡ result_ok (letter_part (letter_of purpose) after.now)) }
     ensures bound { IfOk result (λ p. IfSome p (λ s. s.1 ≤ length after.now)) }
 {
     match after {
@@ -149,7 +153,8 @@ fn io_part(alloc: Global, first: u8, after: &[u8]) -> Result<Option<Sized>, Allo
 
 /// The part at the front, and what stands behind it; none where no part stands there.
 fn first_part<'a>(alloc: Global, bytes: &'a [u8]) -> Result<Option<(Part, &'a [u8])>, AllocError>
-    ensures part { IfOk result (λ p. option_map (λ s. (part_of s.0, s.1.now)) p ≡ result_ok (first_part bytes.now)) }
+    ensures part { IfOk result
+        (λ p. option_map (λ s. (part_of s.0, s.1.now)) p ≡ result_ok (first_part bytes.now)) }
     ensures bound { IfOk result (λ p. IfSome p (λ s. length s.1.now < length bytes.now)) }
 {
     let [first, after @ ..] = bytes else {

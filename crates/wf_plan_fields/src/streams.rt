@@ -1,6 +1,7 @@
 //! The files that hold a field: input, restart and streams.
 
-ghost use Rattle.std.specs.Prelude.{◌≡◌, ◌<◌, ◌≤◌, ◌^◌, ◌++◌, ◌==◌, IfOk, OnOk, flat_map, map, if◌then◌else◌};
+ghost use Rattle.std.specs.Prelude.{◌≡◌, ◌<◌, ◌≤◌, ◌^◌, ◌++◌, ◌==◌, IfOk, OnOk, flat_map, map};
+ghost use Rattle.std.specs.Prelude.{if◌then◌else◌};
 ghost use Rattle.std.specs.List.{list_any};
 ghost use Rattle.wf_model.specs.Io.{is_restarted, output_streams, reads_input};
 ghost use Rattle.wf_model.specs.PlanFields.{has_letter, stream_bits};
@@ -47,7 +48,8 @@ pub(crate) fn has_restart(parts: &[Part]) -> bool
 
 /// Adds the streams of an `h`.
 fn add_streams(streams: &mut Vec<u8>, part: &Part) -> Result<(), AllocError>
-    ensures { OnOk result (streams.new.items ≡ streams.old.items ++ output_streams (part_of part.now)) }
+    ensures { OnOk result
+        (streams.new.items ≡ streams.old.items ++ output_streams (part_of part.now)) }
 {
     match part {
         Part::Output(more) => streams.extend_from_slice(more.as_slice()),
@@ -92,7 +94,8 @@ fn stream_bits(streams: &[u8]) -> u16
 
 /// The streams that hold it, stream n as bit n.
 pub(crate) fn streams_of(alloc: Global, parts: &[Part]) -> Result<u16, AllocError>
-    ensures { IfOk result (λ bits. bits ≡ stream_bits (flat_map output_streams (map part_of parts.now))) }
+    ensures { IfOk result
+        (λ bits. bits ≡ stream_bits (flat_map output_streams (map part_of parts.now))) }
 {
     let streams = output_streams(alloc, parts)?;
     Ok(stream_bits(streams.as_slice()))

@@ -16,7 +16,7 @@ use Rattle.wf_model.specs.Table.{table_of}
 use Rattle.wf_model.specs.PlanOf.{plan_of}
 use Rattle.wf_model.specs.Sound.{IsSoundPlan, IsRangedPlan, FilesFit, CallsHooks, HasHooks}
 use Rattle.wf_registry_laws.specs.HookLaws.{HasUsualArity}
-use Rattle.wf_table_laws.specs.Premises.{HasRangedArity}
+use Rattle.wf_model.specs.Hooks.{HasFewArguments}
 use Rattle.wf_table_laws.specs.ItemLaws.{CallsNothing}
 
 -- what a plan keeps, where these are the stored functions
@@ -33,7 +33,10 @@ pub record IsAcceptedPlan (hooks : List HookName) (plan : Plan) : Type 0 where
 -- the plan of a Registry, a namelist and a table, where calls have at most 8 arguments
 abbrev pub PlansWithHooksAreSound : Type 0
 PlansWithHooksAreSound =
-    (files : List SourceFile) (defines : Defines) (registry : Registry) (namelist : Namelist) (config : Config) (hooks : List HookName)
+    (files : List SourceFile) (defines : Defines) (registry : Registry) (namelist : Namelist)
+        (config : Config) (hooks : List HookName)
     (text : List ℕ) (items : List Item) (plan : Plan)
-    → registry_of files defines ≡ Ok registry → config_of registry namelist ≡ Ok config → All HasRangedArity hooks
-    → table_of text (names_of config hooks) ≡ Ok items → plan_of config hooks items ≡ Ok plan → IsAcceptedPlan hooks plan
+    → registry_of files defines ≡ Ok registry → config_of registry namelist ≡ Ok config
+        → All HasFewArguments hooks
+    → table_of text (names_of config hooks) ≡ Ok items → plan_of config hooks items ≡ Ok plan
+        → IsAcceptedPlan hooks plan

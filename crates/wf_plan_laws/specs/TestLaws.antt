@@ -7,7 +7,8 @@ use Rattle.wf_model.specs.declared.table.HookName.{HookName}
 use Rattle.wf_model.specs.Reading.{first_fault}
 use Rattle.wf_model.specs.PlanFields.{z_extents}
 use Rattle.wf_model.specs.PlanOf.{plan_from, plan_of}
-use Rattle.wf_model.specs.PlanTests.{unbuilt_fault, unbuilt, domain_faults, read_faults, limit_faults}
+use Rattle.wf_model.specs.PlanTests.{unbuilt_fault, unbuilt, domain_faults, read_faults}
+use Rattle.wf_model.specs.PlanTests.{limit_faults}
 
 -- of each group of tests none fails
 pub record PassesTests (config : Config) (plan : Plan) : Type 0 where
@@ -18,5 +19,6 @@ pub record PassesTests (config : Config) (plan : Plan) : Type 0 where
 
 abbrev pub PlansPassTheirTests : Type 0
 PlansPassTheirTests =
-    (config : Config) (hooks : List HookName) (items : List Item) (plan : Plan) → plan_of config hooks items ≡ Ok plan
+    (config : Config) (hooks : List HookName) (items : List Item) (plan : Plan)
+        → plan_of config hooks items ≡ Ok plan
     → (plan_from config hooks items ≡ plan) × PassesTests config plan

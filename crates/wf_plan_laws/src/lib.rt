@@ -3,7 +3,8 @@
 
 ghost use Rattle.wf_plan_laws.specs.TestLaws.{PlansPassTheirTests};
 ghost use Rattle.wf_plan_laws.specs.ReadLaws.{ReadsAreSound};
-ghost use Rattle.wf_plan_laws.specs.PartLaws.{PhasesNameLevels, ItemsAreSound, FieldsAreSound, LimitsAreKept, DomainsAreCounted, DomainsAreSingle};
+ghost use Rattle.wf_plan_laws.specs.PartLaws.{PhasesNameLevels, ItemsAreSound, FieldsAreSound};
+ghost use Rattle.wf_plan_laws.specs.PartLaws.{LimitsAreKept, DomainsAreCounted, DomainsAreSingle};
 ghost use Rattle.wf_plan_laws.specs.PlanLaws.{PlansWithHooksAreSound};
 
 /// A plan that is given is what the config and the table say, and each group of its tests passes.
@@ -26,12 +27,14 @@ pub fn items_are_sound()
     ensures { ItemsAreSound }
 {}
 
-/// The field levels of a sound config are in their ranges, where each extent in z is 1 to 128, and each has its pair.
+/// The field levels of a sound config are in their ranges, where each extent in z is 1 to 128, and
+/// each has its pair.
 pub fn fields_are_sound()
     ensures { FieldsAreSound }
 {}
 
-/// Where no test of limits fails, levels, cells, items of the script and bytes of files keep within theirs.
+/// Where no test of limits fails, levels, cells, items of the script and bytes of files keep within
+/// theirs.
 pub fn limits_are_kept()
     ensures { LimitsAreKept }
 {}
@@ -46,8 +49,8 @@ pub fn domains_are_single()
     ensures { DomainsAreSingle }
 {}
 
-/// A plan of a Registry, a namelist and a table that is accepted is sound, its numbers are in their ranges, its files keep
-/// within their sizes, and it has one domain; calls are of stored functions.
+/// A plan of a Registry, a namelist and a table that is accepted is sound, its numbers are in their
+/// ranges, its files keep within their sizes, and it has one domain; calls are of stored functions.
 pub fn plans_with_hooks_are_sound()
     ensures { PlansWithHooksAreSound }
 {}

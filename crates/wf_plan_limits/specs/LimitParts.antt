@@ -12,15 +12,18 @@ use Rattle.wf_model.specs.PlanTests.{Faults, extent_fault, file_fault}
 
 -- more than 64 levels
 abbrev pub levels_limit : Plan → Option PlanFault
-levels_limit plan = fault_if (nat_lt 64 (length plan.fields)) (Limit which.Levels (pos (length plan.fields)))
+levels_limit plan =
+    fault_if (nat_lt 64 (length plan.fields)) (Limit which.Levels (pos (length plan.fields)))
 
 -- more than 50,000,000 cells
 abbrev pub cells_limit : Plan → Option PlanFault
-cells_limit plan = fault_if (nat_lt 50000000 (all_cells plan)) (Limit which.Cells (pos (all_cells plan)))
+cells_limit plan =
+    fault_if (nat_lt 50000000 (all_cells plan)) (Limit which.Cells (pos (all_cells plan)))
 
 -- more than 1,000,000 items of the script
 abbrev pub script_limit : Plan → Option PlanFault
-script_limit plan = fault_if (nat_lt 1000000 (script_items plan)) (Limit which.Script (pos (script_items plan)))
+script_limit plan =
+    fault_if (nat_lt 1000000 (script_items plan)) (Limit which.Script (pos (script_items plan)))
 
 -- the bytes of the files of all streams of a domain
 abbrev pub files_of : Plan → ℕ → Faults

@@ -18,8 +18,10 @@ stream_frames interval steps = one_if (nat_lt 0 interval) + due_steps interval s
 
 -- the frames of all ten streams of domain 1
 abbrev pub frame_count : Plan → ℕ
-frame_count plan = sum_by (λ s. stream_frames (slice_index (domain_of plan 1).intervals s) plan.steps) (range_with_len 0 10)
+frame_count plan = sum_by (λ s.
+    stream_frames (slice_index (domain_of plan 1).intervals s) plan.steps) (range_with_len 0 10)
 
 -- in each step all items of the table; the frames; and the restart files
 unfoldable pub script_count : Plan → ℕ
-script_count plan = length plan.items * plan.steps + frame_count plan + due_steps plan.restart_steps plan.steps
+script_count plan =
+    length plan.items * plan.steps + frame_count plan + due_steps plan.restart_steps plan.steps

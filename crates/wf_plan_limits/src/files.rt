@@ -31,7 +31,8 @@ fn frames_per_file(plan: &Plan, stream: u32) -> u32
     frames.get(stream as usize).copied().unwrap_or(0)
 }
 
-/// The records of a file of a stream: the lesser of the frames that it takes, and one more than the run's due steps.
+/// The records of a file of a stream: the lesser of the frames that it takes, and one more than the
+/// run's due steps.
 fn file_records(plan: &Plan, stream: u32) -> u32
     requires { HasOneDomain plan.now }
     ensures { result ≡ file_records plan.now 1 stream }
@@ -48,8 +49,8 @@ fn file_records(plan: &Plan, stream: u32) -> u32
     }
 }
 
-/// The size of a stream's files, where it passes the limit of the version. A header that can't be placed counts as want
-/// of memory.
+/// The size of a stream's files, where it passes the limit of the version. A header that can't be
+/// placed counts as want of memory.
 fn file_fault(alloc: Global, plan: &Plan, stream: u32) -> Found
     requires one_domain { HasOneDomain plan.now }
     requires stream { stream ≤ 10 }
@@ -67,11 +68,13 @@ fn file_fault(alloc: Global, plan: &Plan, stream: u32) -> Found
     }
 }
 
-/// The first stream whose files pass the limit of the version. Fields out of their ranges count as want of memory.
+/// The first stream whose files pass the limit of the version. Fields out of their ranges count as
+/// want of memory.
 pub(crate) fn files_fault(alloc: Global, plan: &Plan) -> Found
     requires one_domain { HasOneDomain plan.now }
     requires few { length plan.now.fields ≤ 64 }
-    ensures { IfOk result (λ f. f ≡ first_fault (map (file_fault plan.now 1) (range_with_len 0 11))) }
+    ensures { IfOk result
+        (λ f. f ≡ first_fault (map (file_fault plan.now 1) (range_with_len 0 11))) }
 {
     if !are_ranged(plan.fields.as_slice()) {
         return Err(AllocError);

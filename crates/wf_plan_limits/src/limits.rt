@@ -62,7 +62,8 @@ fn size_fault(plan: &Plan, extents: &[i64]) -> Found
     limited(Which::Cells, MOST_CELLS, all_cells(plan)?)
 }
 
-/// What passes its limit of the script's items and the bytes of files. More than one domain counts as want of memory.
+/// What passes its limit of the script's items and the bytes of files. More than one domain counts
+/// as want of memory.
 fn run_fault(alloc: Global, plan: &Plan) -> Found
     requires { length plan.now.fields ≤ 64 }
     ensures { IfOk result (λ f. f ≡ first_fault (run_faults plan.now)) }
@@ -82,23 +83,24 @@ fn run_fault(alloc: Global, plan: &Plan) -> Found
 
 /// The first limit that a plan of one domain passes, if any.
 ///
-/// `extents` are the extents in z that are asked for, in the order in which they are judged; they stand beside the plan,
-/// since its type can't hold one below 0. The tests, in this order:
+/// `extents` are the extents in z that are asked for, in the order in which they are judged; they
+/// stand beside the plan, since its type can't hold one below 0. The tests, in this order:
 ///
 /// - more than 64 field levels;
 /// - an extent in z that isn't 1 to 128;
 /// - more than 50,000,000 cells of all levels in all domains;
-/// - more than 1,000,000 items of the script, counted as if no domain resumed, and with one restart file more where a
-///   restart writes restart files;
-/// - for streams 0 to 9 and then restart files, a file of more than 2,147,483,644 bytes in version 1, or
-///   1,099,511,627,776 in version 2, with as many records as it takes in this run.
+/// - more than 1,000,000 items of the script, counted as if no domain resumed, and with one restart
+///   file more where a restart writes restart files;
+/// - for streams 0 to 9 and then restart files, a file of more than 2,147,483,644 bytes in version
+///   1, or 1,099,511,627,776 in version 2, with as many records as it takes in this run.
 ///
-/// The fault has the number that passes its limit. The limits are this project's own; that of version 1 keeps all places
-/// in a file below 2 to the 31.
+/// The fault has the number that passes its limit. The limits are this project's own; that of
+/// version 1 keeps all places in a file below 2 to the 31.
 ///
-/// What can't be counted is answered as want of memory, after the tests before it: the script of more domains than one,
-/// or of one that doesn't begin at the run's start or whose steps take no second; files of fields out of their ranges,
-/// or with a header that can't be placed; a number from 2 to the 127 on.
+/// What can't be counted is answered as want of memory, after the tests before it: the script of
+/// more domains than one, or of one that doesn't begin at the run's start or whose steps take no
+/// second; files of fields out of their ranges, or with a header that can't be placed; a number
+/// from 2 to the 127 on.
 pub fn limit_fault(
     alloc: Global,
     plan: &Plan,

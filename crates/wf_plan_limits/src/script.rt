@@ -1,6 +1,7 @@
 //! The items of the script of one domain, counted without making it.
 
-ghost use Rattle.std.specs.Prelude.{◌≡◌, ◌↔◌, ◌+◌, ◌*◌, ◌≤◌, ◌^◌, IfOk, IsTrue, length, slice_index, sum_by};
+ghost use Rattle.std.specs.Prelude.{◌≡◌, ◌↔◌, ◌+◌, ◌*◌, ◌≤◌, ◌^◌, IfOk, IsTrue, length};
+ghost use Rattle.std.specs.Prelude.{slice_index, sum_by};
 ghost use Rattle.std.specs.List.{range_with_len};
 ghost use Rattle.wf_model.specs.Plans.{domain_of};
 ghost use Rattle.wf_model.specs.Counts.{due_steps, more_restarts, script_items};
@@ -22,7 +23,8 @@ pub(crate) fn first_domain(plan: &Plan) -> &Domain
     &plan.domains.as_slice()[0]
 }
 
-/// Whether the plan has one domain, which begins at the run's start, with steps of a second at least.
+/// Whether the plan has one domain, which begins at the run's start, with steps of a second at
+/// least.
 pub(crate) fn has_one_domain(plan: &Plan) -> bool
     ensures { IsTrue result ↔ HasOneDomain plan.now }
 {
@@ -62,7 +64,8 @@ fn stream_frames(interval: u64, steps: u64) -> u128
 
 /// The frames of all streams.
 fn frame_count(domain: &Domain, steps: u64) -> u128
-    ensures value { result ≡ sum_by (λ s. stream_frames (slice_index domain.now.intervals s) steps) (range_with_len 0 10) }
+    ensures value { result ≡ sum_by (λ s. stream_frames (slice_index domain.now.intervals s) steps)
+        (range_with_len 0 10) }
     ensures few { result ≤ 10 * 2 ^ 64 }
 {
     let mut total = 0;

@@ -1,5 +1,6 @@
 -- Regions and bounds of a phase in a domain, and what is wrong in them, as the code has them.
-use Rattle.std.specs.Prelude.{ℕ, ◌+◌, ◌-◌, Bool, ◌&&◌, ◌||◌, List, [], ◌∷◌, map, find, ℤ, pos, int_lt, ◌+ℤ◌, Option, if◌then◌else◌}
+use Rattle.std.specs.Prelude.{ℕ, ◌+◌, ◌-◌, Bool, ◌&&◌, ◌||◌, List, [], ◌∷◌, map, find, ℤ, pos}
+use Rattle.std.specs.Prelude.{int_lt, ◌+ℤ◌, Option, if◌then◌else◌}
 use Rattle.std.specs.Option.{option_map}
 use Rattle.wf_model.specs.declared.plan.Domain.{Domain}
 use Rattle.wf_model.specs.declared.plan.Item.{Item}
@@ -10,7 +11,8 @@ use Rattle.wf_model.specs.declared.plan_fault.PlanFault.{PlanFault}
 use Rattle.wf_model.specs.declared.plan_fault.PlanFault.TheVariants.{ReadPastLevels, ReadPastEdge}
 use Rattle.wf_model.specs.Patches as patches
 use Rattle.wf_model.specs.Plans.{extra, field_of}
-use Rattle.wf_model.specs.PlanTests.{Faults, extent_at, has_points, leaves, read_leaves, region_span, region_z}
+use Rattle.wf_model.specs.PlanTests.{Faults, extent_at, has_points, leaves, read_leaves}
+use Rattle.wf_model.specs.PlanTests.{region_span, region_z}
 use Rattle.wf_model.specs.Reading.{fault_if}
 use Rattle.wf_model.specs.Reads.{Read, reads_of}
 use Rattle.wf_plan_reads.specs.declared.bounds.Span.{Span}
@@ -35,7 +37,8 @@ span_y plan dom ph = region_span dom.periodic_y ph.my (points_y plan dom ph.writ
 
 -- the phase has points
 abbrev pub has_region_in : Plan → Domain → List ℤ → Phase → Bool
-has_region_in plan dom zs ph = has_points (span_x plan dom ph) && (has_points (span_y plan dom ph) && has_points (region_z zs ph))
+has_region_in plan dom zs ph = has_points (span_x plan dom ph)
+    && (has_points (span_y plan dom ph) && has_points (region_z zs ph))
 
 -- ---- bounds
 
@@ -45,7 +48,8 @@ span_of s = record { low = s.low; high = s.last +ℤ pos 1 }
 
 -- a read leaves the bounds
 abbrev pub is_outside : Bounds → Read → Bool
-is_outside (bounds.Levels plan extents span) r = (field_of plan.now r.field).z && leaves (span_of span) r.dk (extent_at extents.now r.field)
+is_outside (bounds.Levels plan extents span) r =
+    (field_of plan.now r.field).z && leaves (span_of span) r.dk (extent_at extents.now r.field)
 is_outside (bounds.Edges plan domain x y) r =
     read_leaves domain.now.periodic_x (span_of x) r.di (points_x plan.now domain.now r.field)
     || read_leaves domain.now.periodic_y (span_of y) r.dj (points_y plan.now domain.now r.field)
@@ -64,13 +68,15 @@ past_edge plan d ph f = ReadPastEdge d ph.name (field_of plan f).name
 
 -- a read leaves the levels
 abbrev pub leaves_levels : Plan → List ℤ → Phase → Read → Bool
-leaves_levels plan zs ph r = (field_of plan r.field).z && leaves (region_z zs ph) r.dk (extent_at zs r.field)
+leaves_levels plan zs ph r =
+    (field_of plan r.field).z && leaves (region_z zs ph) r.dk (extent_at zs r.field)
 
 -- with the levels of a phase in a domain
 abbrev pub levels_in : Plan → List ℤ → Domain → Phase → Faults
 levels_in plan zs dom ph =
     fault_if (int_lt (extent_at zs ph.writes) (pos ph.to)) (past_levels plan ph ph.writes)
-    ∷ (if has_region_in plan dom zs ph then map (λ (r : Read). fault_if (leaves_levels plan zs ph r) (past_levels plan ph r.field)) (reads_of ph.expr) else [])
+    ∷ (if has_region_in plan dom zs ph then map (λ (r : Read). fault_if (leaves_levels plan zs ph r)
+    (past_levels plan ph r.field)) (reads_of ph.expr) else [])
 
 -- a read leaves a domain in a direction that isn't periodic
 abbrev pub leaves_edges : Plan → Domain → Phase → Read → Bool
@@ -81,7 +87,9 @@ leaves_edges plan dom ph r =
 -- with the edges of a phase in a domain of this number
 abbrev pub edges_in : Plan → List ℤ → ℕ → Domain → Phase → Faults
 edges_in plan zs d dom ph =
-    if has_region_in plan dom zs ph then map (λ (r : Read). fault_if (leaves_edges plan dom ph r) (past_edge plan d ph r.field)) (reads_of ph.expr) else []
+    if has_region_in plan dom zs ph
+    then map (λ (r : Read). fault_if (leaves_edges plan dom ph r) (past_edge plan d ph r.field))
+    (reads_of ph.expr) else []
 
 -- of an item, which has them where it is a phase
 abbrev pub of_item : (Phase → Faults) → Item → Faults

@@ -23,7 +23,8 @@ pub(crate) enum Bounds<'a> {
         extents: &'a [i64],
         span: Span,
     },
-    /// The points of the field in the domain, where it isn't periodic, from a region of these points.
+    /// The points of the field in the domain, where it isn't periodic, from a region of
+    /// these points.
     Edges {
         plan: &'a Plan,
         domain: &'a Domain,

@@ -5,6 +5,7 @@ ghost use Rattle.wf_model.specs.Plans.{field_of};
 ghost use Rattle.wf_model.specs.PlanTests.{extent_at};
 ghost use Rattle.wf_plan_reads.specs.Regions.{points_x, points_y};
 
+use wf_model::extents::points;
 use wf_model::{Domain, Plan};
 
 /// Whether it has a z letter.
@@ -63,22 +64,12 @@ pub(crate) fn extent_at(extents: &[i64], field: u32) -> i64
 pub(crate) fn points_x(plan: &Plan, domain: &Domain, field: u32) -> u32
     ensures { result ≡ points_x plan.now domain.now field }
 {
-    let points = domain.ide.saturating_sub(1);
-    if is_staggered_x(plan, field) && !domain.periodic_x {
-        points + 1
-    } else {
-        points
-    }
+    points(domain.ide, is_staggered_x(plan, field), domain.periodic_x)
 }
 
 /// How many points it has from south to north in a domain.
 pub(crate) fn points_y(plan: &Plan, domain: &Domain, field: u32) -> u32
     ensures { result ≡ points_y plan.now domain.now field }
 {
-    let points = domain.jde.saturating_sub(1);
-    if is_staggered_y(plan, field) && !domain.periodic_y {
-        points + 1
-    } else {
-        points
-    }
+    points(domain.jde, is_staggered_y(plan, field), domain.periodic_y)
 }

@@ -8,7 +8,8 @@ use crate::bounds::{Span, has_points};
 use crate::fields::{extent_at, points_x, points_y};
 use wf_model::{Domain, Phase, Plan};
 
-/// The points of a direction of so many without the margin at either end, which counts only where it isn't periodic.
+/// The points of a direction of so many without the margin at either end, which counts only where
+/// it isn't periodic.
 fn region_span(periodic: bool, margin: u32, points: u32) -> Span
     ensures { span_of result ≡ region_span periodic margin points }
 {

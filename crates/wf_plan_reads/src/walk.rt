@@ -10,7 +10,8 @@ use wf_model::{Args, Expr};
 
 /// The level of this read, where it leaves the bounds.
 fn outside(bounds: &Bounds, field: u32, di: i32, dk: i32, dj: i32) -> Option<u32>
-    ensures { result ≡ first_of (is_outside bounds.now) (record { field = field; di = di; dk = dk; dj = dj } ∷ []) }
+    ensures { result ≡ first_of (is_outside bounds.now)
+        (record { field = field; di = di; dk = dk; dj = dj } ∷ []) }
 {
     if is_outside(bounds, field, di, dk, dj) {
         Some(field)
@@ -19,8 +20,8 @@ fn outside(bounds: &Bounds, field: u32, di: i32, dk: i32, dj: i32) -> Option<u32
     }
 }
 
-/// The level of the first read of an expression, from left to right, that leaves the bounds. All operands of a choice
-/// count.
+/// The level of the first read of an expression, from left to right, that leaves the bounds. All
+/// operands of a choice count.
 #[cycle(walk)]
 pub(crate) fn first_outside(expression: &Expr, bounds: &Bounds) -> Option<u32>
     ensures { result ≡ first_of (is_outside bounds.now) (reads_of expression.now) }

@@ -5,7 +5,8 @@ use Rattle.wf_model.specs.Entries.{column, level_names, variable_of, variables_o
 use Rattle.wf_model.specs.Judging.{symbol_of}
 
 -- by its columns
-pub record AreNamesOf (symbol_word : Text) (level_words : List Text) (variable_word : Text) (variable_words : List Text) (cols : List Text) : Type 0 where
+pub record AreNamesOf (symbol_word : Text) (level_words : List Text) (variable_word : Text)
+    (variable_words : List Text) (cols : List Text) : Type 0 where
   pub symbol : symbol_word ≡ symbol_of cols
   pub levels : level_words ≡ level_names (symbol_of cols) (column cols 4)
   pub variable : variable_word ≡ variable_of (symbol_of cols) (column cols 7)

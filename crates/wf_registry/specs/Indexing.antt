@@ -4,7 +4,9 @@ use Rattle.wf_model.specs.declared.registry.Entry.{Entry}
 use Rattle.wf_model.specs.declared.registry.Entry.TheVariants.{Rconfig}
 use Rattle.wf_model.specs.Letters.{Text, is_among}
 use Rattle.wf_registry.specs.declared.indexing.Index.{Index}
-use Rattle.wf_model.specs.Entries.{Kind, dimspecs, rconfigs, packages, halos, periods, same_kind, entry_name, entry_datasets, entry_levels, entry_symbol, entry_variables, is_integer, is_integer_rconfig}
+use Rattle.wf_model.specs.Entries.{Kind, dimspecs, rconfigs, packages, halos, periods, same_kind}
+use Rattle.wf_model.specs.Entries.{entry_name, entry_datasets, entry_levels, entry_symbol}
+use Rattle.wf_model.specs.Entries.{entry_variables, is_integer, is_integer_rconfig}
 
 -- the names of entries of a kind
 abbrev pub names_of : Kind → Entry → List Text
@@ -12,7 +14,8 @@ names_of kind e = if same_kind kind (entry_name e).0 then (entry_name e).1 ∷ [
 
 -- the symbol of an integer rconfig, unless another rconfig has it
 abbrev pub integer_names : List Text → Entry → List Text
-integer_names rconfig_names (Rconfig kind symbol how entries default) = if is_integer kind && not (is_among symbol rconfig_names) then symbol ∷ [] else []
+integer_names rconfig_names (Rconfig kind symbol how entries default) =
+    if is_integer kind && not (is_among symbol rconfig_names) then symbol ∷ [] else []
 integer_names rconfig_names e = []
 
 -- the same words are among both

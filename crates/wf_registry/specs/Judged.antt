@@ -14,9 +14,11 @@ abbrev pub words_judged : List Entry → List Entry → List Text → Result (Li
 words_judged all before words = line_entry all before words >>= λ e. Ok (before ++ e ∷ [])
 
 -- line after line
-unfoldable pub lines_judged : List Entry → List Entry → List Kept → Result (List Entry) RegistryFault
+unfoldable pub lines_judged : List Entry → List Entry → List Kept →
+    Result (List Entry) RegistryFault
 lines_judged all before [] = Ok before
-lines_judged all before (l ∷ ls) = told_as (fault_at l) (words_judged all before l.words) >>= λ es. lines_judged all es ls
+lines_judged all before (l ∷ ls) =
+    told_as (fault_at l) (words_judged all before l.words) >>= λ es. lines_judged all es ls
 
 -- a rule that is broken is told with its line; where none is told, memory ran out
 abbrev pub TellsAt : Kept → Option RegistryKind → Option RegistryFault → Type 0

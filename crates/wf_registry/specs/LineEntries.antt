@@ -11,7 +11,8 @@ use Rattle.wf_registry.specs.Lines.{word_kind}
 
 -- of these words
 abbrev pub words_entry : List Text → Option Entry
-words_entry words = if nat_le (least_columns (word_kind words)) (length (columns words)) then entry_of_kind (word_kind words) (columns words) else None
+words_entry words = if nat_le (least_columns (word_kind words)) (length (columns words))
+    then entry_of_kind (word_kind words) (columns words) else None
 
 -- of each line that has one, in order
 abbrev pub lines_entries : List SourceFile → List KeptLine → List Entry

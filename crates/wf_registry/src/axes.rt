@@ -18,7 +18,8 @@ use wf_registry_lines::{KeptLine, words_at};
 /// Adds the letter of a dimspec of these words, where it has enough columns.
 fn add_dimspec(axes: &mut Axes, words: &[Word]) -> Result<(), AllocError>
     requires { word_kind (word_texts words.now) ≡ dimspecs }
-    ensures { OnOk result (HasAxesOf axes.new (axes.old ++ option_to_list (words_entry (word_texts words.now)))) }
+    ensures { OnOk result
+        (HasAxesOf axes.new (axes.old ++ option_to_list (words_entry (word_texts words.now)))) }
 {
     let columns = columns_of(words);
     if columns.len() < least_columns(LineKind::Dimspec) {
@@ -28,8 +29,9 @@ fn add_dimspec(axes: &mut Axes, words: &[Word]) -> Result<(), AllocError>
     Ok(())
 }
 
-/// The letters of all dimspecs with enough columns, also of those that break another rule. The words of each dimspec are
-/// given back once its letter is added; those of other lines are not read.
+/// The letters of all dimspecs with enough columns, also of those that break another rule. The
+/// words of each dimspec are given back once its letter is added; those of other lines are
+/// not read.
 pub(crate) fn axes_of(
     alloc: Global,
     files: &[SourceFile],

@@ -3,7 +3,8 @@
 ghost use Rattle.std.specs.Prelude.{◌≡◌};
 ghost use Rattle.wf_model.specs.BuiltIns.{is_built_in};
 
-/// The names of WRF's namelist that this project knows without an entry, in the order of their rules.
+/// The names of WRF's namelist that this project knows without an entry, in the order of
+/// their rules.
 const BUILT_INS: &[u8] =
     b"run_days run_hours run_minutes run_seconds start_year start_month start_day start_hour \
     start_minute start_second input_from_file history_interval auxhist1_interval auxhist2_interval \

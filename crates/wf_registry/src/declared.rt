@@ -2,7 +2,9 @@
 
 ghost use Rattle.std.specs.Prelude.{◌≡◌, ◌++◌, ◌∷◌, [], IfOk, flat_map};
 ghost use Rattle.wf_model.specs.Letters.{is_among};
-ghost use Rattle.wf_model.specs.Entries.{declares, dimspecs, rconfigs, packages, halos, periods, entry_datasets, entry_levels, entry_symbol, entry_variables, is_integer_rconfig};
+ghost use Rattle.wf_model.specs.Entries.{declares, dimspecs, rconfigs, packages, halos, periods};
+ghost use Rattle.wf_model.specs.Entries.{entry_datasets, entry_levels, entry_symbol};
+ghost use Rattle.wf_model.specs.Entries.{entry_variables, is_integer_rconfig};
 ghost use Rattle.wf_model.specs.Judging.{taken_names};
 
 use crate::indexing::Index;
@@ -10,7 +12,8 @@ use std::alloc::{AllocError, Global};
 use std::marker::Model;
 use wf_model::Entry;
 
-/// Entries in order, with an index of the names that they declare. Contracts see the list of the entries.
+/// Entries in order, with an index of the names that they declare. Contracts see the list of
+/// the entries.
 pub(crate) struct Declared {
     entries: Vec<Entry>,
     /// Boxed, since each line's call moves the entries before it.

@@ -24,7 +24,8 @@ fn is_taken_dataset(before: &Declared, word: &[u8]) -> bool
 }
 
 fn shares_dataset(before: &Declared, name: &[u8], staggered: &[u8]) -> bool
-    ensures { result ≡ share (name.now ∷ staggered.now ∷ []) (taken_datasets ++ flat_map entry_datasets before.now) }
+    ensures { result ≡ share (name.now ∷ staggered.now ∷ [])
+        (taken_datasets ++ flat_map entry_datasets before.now) }
 {
     is_taken_dataset(before, name) || is_taken_dataset(before, staggered)
 }

@@ -16,7 +16,8 @@ use wf_model::{RegistryFault, RegistryKind};
 pub enum RegistryError {
     #[error("out of memory")]
     Memory,
-    /// What is wrong, in which file and at which line. Where a file is missing that an include wants, its name is there.
+    /// What is wrong, in which file and at which line. Where a file is missing that an include
+    /// wants, its name is there.
     #[error("the Registry is refused")]
     Fault(RegistryFault),
 }

@@ -18,9 +18,12 @@ use wf_model::{Bytes, Entry, Name, RegistryKind, Word};
 use wf_registry_columns::{Head, column, groups_fault, joined_groups};
 use wf_text::lower;
 
-/// What is wrong in a name, of which it is known whether it is taken, and in groups with such a head.
+/// What is wrong in a name, of which it is known whether it is taken, and in groups with such
+/// a head.
 fn exchange_fault(name: &[u8], is_taken: bool, groups: &[u8], head: Head) -> Option<RegistryKind>
-    ensures fault { result ≡ first_fault (fault_unless (is_name name.now) kinds.Columns ∷ fault_if is_taken kinds.Duplicate ∷ flat_map (group_faults (head_rule head)) (groups_of groups.now)) }
+    ensures fault { result ≡ first_fault
+        (fault_unless (is_name name.now) kinds.Columns ∷ fault_if is_taken kinds.Duplicate
+        ∷ flat_map (group_faults (head_rule head)) (groups_of groups.now)) }
     ensures name { IfNone result (IsTrue (is_name name.now)) }
 {
     if !Name::is_name(name) {

@@ -17,8 +17,8 @@ struct Named {
     level: bool,
 }
 
-/// Symbols of fields and names of their levels, each name once. Contracts see the list of the symbols and that of the
-/// names of levels.
+/// Symbols of fields and names of their levels, each name once. Contracts see the list of the
+/// symbols and that of the names of levels.
 pub(crate) struct FieldWords {
     names: IndexMap<Vec<u8>, Named>,
 }
@@ -85,7 +85,8 @@ impl FieldWords {
 
     /// Whether the word is a symbol or the name of a level.
     pub(crate) fn has_name(&self, word: &[u8]) -> bool
-        ensures { result ≡ (is_among word.now self.now.symbols || is_among word.now self.now.levels) }
+        ensures { result
+            ≡ (is_among word.now self.now.symbols || is_among word.now self.now.levels) }
     {
         let named = self.named(word);
         named.symbol || named.level

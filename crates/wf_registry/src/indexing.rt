@@ -2,7 +2,9 @@
 
 ghost use Rattle.std.specs.Prelude.{◌≡◌, ◌++◌, ◌∷◌, [], OnOk, List as Items};
 ghost use Rattle.wf_model.specs.declared.registry.Entry.{Entry};
-ghost use Rattle.wf_model.specs.Entries.{dimspecs, rconfigs, packages, halos, periods, entry_datasets, entry_levels, entry_symbol, entry_variables};
+ghost use Rattle.wf_model.specs.Entries.{dimspecs, rconfigs, packages, halos, periods};
+ghost use Rattle.wf_model.specs.Entries.{entry_datasets, entry_levels, entry_symbol};
+ghost use Rattle.wf_model.specs.Entries.{entry_variables};
 ghost use Rattle.wf_registry.specs.Adding.{Adds};
 ghost use Rattle.wf_registry.specs.Indexing.{IsIndexed, integer_names, names_of};
 
@@ -32,7 +34,8 @@ impl Index {
 
     /// Adds what an entry declares.
     pub(crate) fn add(&mut self, alloc: Global, entry: &Entry) -> Result<(), AllocError>
-        ensures { OnOk result ((es : Items Entry) → IsIndexed es self.old → IsIndexed (es ++ entry.now ∷ []) self.new) }
+        ensures { OnOk result ((es : Items Entry) → IsIndexed es self.old
+            → IsIndexed (es ++ entry.now ∷ []) self.new) }
     {
         self.kinds.add(alloc, entry)?;
         self.fields.add(alloc, entry)?;
@@ -70,12 +73,18 @@ impl KindIndex {
 
     /// Adds what an entry is named.
     pub(crate) fn add(&mut self, alloc: Global, entry: &Entry) -> Result<(), AllocError>
-        ensures dimspecs { OnOk result (Adds self.old.dimspecs self.new.dimspecs (names_of dimspecs entry.now)) }
-        ensures integers { OnOk result (Adds self.old.integers self.new.integers (integer_names self.old.rconfigs entry.now)) }
-        ensures rconfigs { OnOk result (Adds self.old.rconfigs self.new.rconfigs (names_of rconfigs entry.now)) }
-        ensures packages { OnOk result (Adds self.old.packages self.new.packages (names_of packages entry.now)) }
-        ensures halos { OnOk result (Adds self.old.halos self.new.halos (names_of halos entry.now)) }
-        ensures periods { OnOk result (Adds self.old.periods self.new.periods (names_of periods entry.now)) }
+        ensures dimspecs { OnOk result
+            (Adds self.old.dimspecs self.new.dimspecs (names_of dimspecs entry.now)) }
+        ensures integers { OnOk result
+            (Adds self.old.integers self.new.integers (integer_names self.old.rconfigs entry.now)) }
+        ensures rconfigs { OnOk result
+            (Adds self.old.rconfigs self.new.rconfigs (names_of rconfigs entry.now)) }
+        ensures packages { OnOk result
+            (Adds self.old.packages self.new.packages (names_of packages entry.now)) }
+        ensures halos { OnOk result
+            (Adds self.old.halos self.new.halos (names_of halos entry.now)) }
+        ensures periods { OnOk result
+            (Adds self.old.periods self.new.periods (names_of periods entry.now)) }
     {
         add_dimspec(alloc, &mut self.dimspecs, entry)?;
         add_integer(alloc, &mut self.integers, &self.rconfigs, entry)?;
@@ -112,10 +121,14 @@ impl FieldIndex {
 
     /// Adds the names of a field or a dimension that an entry declares.
     pub(crate) fn add(&mut self, alloc: Global, entry: &Entry) -> Result<(), AllocError>
-        ensures symbols { OnOk result (Adds self.old.words.symbols self.new.words.symbols (entry_symbol entry.now)) }
-        ensures levels { OnOk result (Adds self.old.words.levels self.new.words.levels (entry_levels entry.now)) }
-        ensures variables { OnOk result (Adds self.old.variables self.new.variables (entry_variables entry.now)) }
-        ensures datasets { OnOk result (Adds self.old.datasets self.new.datasets (entry_datasets entry.now)) }
+        ensures symbols { OnOk result
+            (Adds self.old.words.symbols self.new.words.symbols (entry_symbol entry.now)) }
+        ensures levels { OnOk result
+            (Adds self.old.words.levels self.new.words.levels (entry_levels entry.now)) }
+        ensures variables { OnOk result
+            (Adds self.old.variables self.new.variables (entry_variables entry.now)) }
+        ensures datasets { OnOk result
+            (Adds self.old.datasets self.new.datasets (entry_datasets entry.now)) }
     {
         add_words(alloc, &mut self.words, entry)?;
         add_variables(alloc, &mut self.variables, entry)?;
@@ -203,7 +216,8 @@ fn add_integer(
 /// Adds the symbol of a field and the names of its levels.
 #[tactic(auto, using(crate::proofs::IndexLemmas::adds_none, crate::proofs::IndexLemmas::adds_same, crate::proofs::IndexLemmas::same_adds))]
 fn add_words(alloc: Global, words: &mut FieldWords, entry: &Entry) -> Result<(), AllocError>
-    ensures symbols { OnOk result (Adds words.old.symbols words.new.symbols (entry_symbol entry.now)) }
+    ensures symbols { OnOk result
+        (Adds words.old.symbols words.new.symbols (entry_symbol entry.now)) }
     ensures levels { OnOk result (Adds words.old.levels words.new.levels (entry_levels entry.now)) }
 {
     match entry {

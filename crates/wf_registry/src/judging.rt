@@ -63,8 +63,8 @@ fn located(alloc: Global, files: &[SourceFile], line: &KeptLine, error: LineErro
     }
 }
 
-/// The entries of the lines, in order, or the first line that breaks a rule. The words of each line are read as it is
-/// judged, and given back then.
+/// The entries of the lines, in order, or the first line that breaks a rule. The words of each line
+/// are read as it is judged, and given back then.
 pub(crate) fn lines_judged(
     alloc: Global,
     files: &[SourceFile],
@@ -72,7 +72,8 @@ pub(crate) fn lines_judged(
     lines: &[KeptLine],
 ) -> Result<Declared, RegistryError>
     requires { All (IsThere files.now) lines.now }
-    ensures { Gives (λ d. d) fault_of result (lines_judged all.now [] (map (kept_in files.now) lines.now)) }
+    ensures { Gives (λ d. d) fault_of result
+        (lines_judged all.now [] (map (kept_in files.now) lines.now)) }
 {
     let mut declared = Declared::with_capacity(alloc, lines.len())?;
     for line in lines {

@@ -1,7 +1,7 @@
 //! The Registry of a run, read from its files.
 //!
-//! A Registry has an entry for each of its lines that counts, in WRF's kinds. The lines are judged one after another;
-//! names that nothing declares are looked for last.
+//! A Registry has an entry for each of its lines that counts, in WRF's kinds. The lines are judged
+//! one after another; names that nothing declares are looked for last.
 #![tactic(auto)]
 
 mod axes;

@@ -27,7 +27,8 @@ fn column_entry(
     before: &Declared,
     columns: &[Word],
 ) -> Result<Entry, LineError>
-    ensures { Gives (λ e. e) rule_of result (column_entry (kind_seen kind) all.now before.now (word_texts columns.now)) }
+    ensures { Gives (λ e. e) rule_of result
+        (column_entry (kind_seen kind) all.now before.now (word_texts columns.now)) }
 {
     match kind {
         LineKind::Dimspec => dimspec_entry(alloc, before, columns),
@@ -43,7 +44,8 @@ fn column_entry(
 
 /// The entry of a line of these words, or the first rule that it breaks.
 ///
-/// `all` has the letters of the dimspecs of all lines, and `before` the entries of the lines before it.
+/// `all` has the letters of the dimspecs of all lines, and `before` the entries of the lines
+/// before it.
 #[tactic(auto, unfolding(crate::specs::Lines::line_entry))]
 pub(crate) fn line_entry(
     alloc: Global,

@@ -2,7 +2,8 @@
 
 ghost use Rattle.std.specs.Prelude.{◌≡◌, IfNone, IsTrue};
 ghost use Rattle.wf_model.specs.Entries.{column};
-ghost use Rattle.wf_model.specs.Entries.{package_symbol as symbol_of_package, package_value as value_of_package};
+ghost use Rattle.wf_model.specs.Entries.{package_symbol as symbol_of_package};
+ghost use Rattle.wf_model.specs.Entries.{package_value as value_of_package};
 ghost use Rattle.wf_model.specs.Judging.{package_faults};
 ghost use Rattle.wf_model.specs.Letters.{is_name};
 ghost use Rattle.wf_model.specs.Letters.{lower as in_lower};
@@ -27,8 +28,10 @@ fn package_fault(before: &Declared, columns: &[Word], name: &[u8]) -> Option<Reg
     requires { name.now ≡ in_lower (column (word_texts columns.now) 0) }
     ensures fault { result ≡ first_fault (package_faults before.now (word_texts columns.now)) }
     ensures name { IfNone result (IsTrue (is_name (column (word_texts columns.now) 0))) }
-    ensures symbol { IfNone result (IsTrue (is_name (symbol_of_package (column (word_texts columns.now) 1)))) }
-    ensures value { IfNone result (IsTrue (is_whole_in 32 (value_of_package (column (word_texts columns.now) 1)))) }
+    ensures symbol { IfNone result
+        (IsTrue (is_name (symbol_of_package (column (word_texts columns.now) 1)))) }
+    ensures value { IfNone result
+        (IsTrue (is_whole_in 32 (value_of_package (column (word_texts columns.now) 1)))) }
 {
     if !Name::is_name(column(columns, 0)) {
         return Some(RegistryKind::Columns);

@@ -26,16 +26,19 @@ fn unknown_name(
 ) -> Result<RegistryFault, AllocError>
     requires place { at < length lines.now }
     requires there { All (IsThere files.now) lines.now }
-    ensures { IfOk result (λ f. (d : KeptLine) → f ≡ fault_at (kept_in files.now (slice_index_or lines.now at d)) UnknownName) }
+    ensures { IfOk result (λ f. (d : KeptLine)
+        → f ≡ fault_at (kept_in files.now (slice_index_or lines.now at d)) UnknownName) }
 {
     fault_at(alloc, files, &lines[at], RegistryKind::UnknownName)
 }
 
-/// The Registry of these files, read from the file named `Registry`, where names are defined with these values.
+/// The Registry of these files, read from the file named `Registry`, where names are defined with
+/// these values.
 ///
-/// Its entries are those of all lines that count, in reading order. A refusal is the first in reading order, and names
-/// its file and line; a name that nothing declares is refused only where nothing else is. Kinds and columns of entries
-/// are those of WRF's Registry; which of their forms are supported, and the limits, are this project's own.
+/// Its entries are those of all lines that count, in reading order. A refusal is the first in
+/// reading order, and names its file and line; a name that nothing declares is refused only where
+/// nothing else is. Kinds and columns of entries are those of WRF's Registry; which of their forms
+/// are supported, and the limits, are this project's own.
 pub fn read_registry(
     alloc: Global,
     files: &[SourceFile],

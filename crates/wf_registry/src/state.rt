@@ -2,7 +2,9 @@
 
 ghost use Rattle.std.specs.Prelude.{◌≡◌, ◌∷◌, IfNone, IfOk, IsTrue, codes, flat_map};
 ghost use Rattle.wf_model.specs.Entries.{column, entry_variables};
-ghost use Rattle.wf_model.specs.Entries.{level_names as names_of_levels, variable_of as name_of_variable, variables_of as names_of_variables};
+ghost use Rattle.wf_model.specs.Entries.{level_names as names_of_levels};
+ghost use Rattle.wf_model.specs.Entries.{variable_of as name_of_variable};
+ghost use Rattle.wf_model.specs.Entries.{variables_of as names_of_variables};
 ghost use Rattle.wf_model.specs.Judging.{integer_faults, state_faults, symbol_of, taken_names};
 ghost use Rattle.wf_model.specs.Letters.{is_among, is_name, share};
 ghost use Rattle.wf_model.specs.Reading.{first_fault, Gives};
@@ -32,7 +34,8 @@ struct FieldNames {
 }
 
 fn field_names(alloc: Global, columns: &[Word]) -> Result<FieldNames, AllocError>
-    ensures { IfOk result (λ n. AreNamesOf n.symbol.items (texts n.levels.items) n.variable.items (texts n.variables.items) (word_texts columns.now)) }
+    ensures { IfOk result (λ n. AreNamesOf n.symbol.items (texts n.levels.items) n.variable.items
+        (texts n.variables.items) (word_texts columns.now)) }
 {
     let symbol = lower(alloc, column(columns, 1))?;
     let levels = level_names(alloc, &symbol, column(columns, 4))?;
@@ -61,7 +64,8 @@ fn is_taken_variable(before: &Declared, word: &[u8]) -> bool
 }
 
 fn shares_variables(before: &Declared, names: &[Vec<u8>]) -> bool
-    ensures { result ≡ share (texts names.now) (codes "Times" ∷ flat_map entry_variables before.now) }
+    ensures { result
+        ≡ share (texts names.now) (codes "Times" ∷ flat_map entry_variables before.now) }
 {
     names.iter().any(|name| is_taken_variable(before, name))
 }
@@ -73,7 +77,8 @@ fn integer_fault(
     columns: &[Word],
     names: &FieldNames,
 ) -> Option<RegistryKind>
-    requires { AreNamesOf names.now.symbol.items (texts names.now.levels.items) names.now.variable.items (texts names.now.variables.items) (word_texts columns.now) }
+    requires { AreNamesOf names.now.symbol.items (texts names.now.levels.items)
+        names.now.variable.items (texts names.now.variables.items) (word_texts columns.now) }
     ensures { result ≡ first_fault (integer_faults all.now before.now (word_texts columns.now)) }
 {
     let dims = column(columns, 2);
@@ -118,8 +123,10 @@ fn state_fault(
     columns: &[Word],
     names: &FieldNames,
 ) -> Option<RegistryKind>
-    requires { AreNamesOf names.now.symbol.items (texts names.now.levels.items) names.now.variable.items (texts names.now.variables.items) (word_texts columns.now) }
-    ensures fault { result ≡ first_fault (state_faults all.now before.now (word_texts columns.now)) }
+    requires { AreNamesOf names.now.symbol.items (texts names.now.levels.items)
+        names.now.variable.items (texts names.now.variables.items) (word_texts columns.now) }
+    ensures fault { result
+        ≡ first_fault (state_faults all.now before.now (word_texts columns.now)) }
     ensures name { IfNone result (IsTrue (is_name names.now.symbol.items)) }
 {
     let kind = column(columns, 0);
@@ -154,7 +161,8 @@ pub(crate) fn state_entry(
     before: &Declared,
     columns: &[Word],
 ) -> Result<Entry, LineError>
-    ensures { Gives (λ e. e) rule_of result (state_entry all.now before.now (word_texts columns.now)) }
+    ensures { Gives (λ e. e) rule_of result
+        (state_entry all.now before.now (word_texts columns.now)) }
 {
     let names = field_names(alloc, columns)?;
     if let Some(kind) = state_fault(all, before, columns, &names) {

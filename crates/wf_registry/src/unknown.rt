@@ -1,6 +1,7 @@
 //! Names that nothing declares.
 
-ghost use Rattle.std.specs.Prelude.{◌≡◌, ◌<◌, ◌&&◌, ◌||◌, IfNone, IfOk, IfSome, codes, flat_map, length, not, position};
+ghost use Rattle.std.specs.Prelude.{◌≡◌, ◌<◌, ◌&&◌, ◌||◌, IfNone, IfOk, IfSome, codes, flat_map};
+ghost use Rattle.std.specs.Prelude.{length, not, position};
 ghost use Rattle.std.specs.List.{after_first, list_all, slice_split};
 ghost use Rattle.std.specs.Str.{bytes_eq};
 ghost use Rattle.wf_model.specs.BuiltIns.{is_built_in as is_built_in_name};
@@ -8,7 +9,9 @@ ghost use Rattle.wf_model.specs.Entries.{declares, entry_symbol, is_integer_rcon
 ghost use Rattle.wf_model.specs.Groups.{groups_of, is_comma, names_in};
 ghost use Rattle.wf_model.specs.Io.{is_colon};
 ghost use Rattle.wf_model.specs.Judging.{all_known, by_namelist, is_known};
-ghost use Rattle.wf_model.specs.Letters.{begins, behind as behind_front, is_among, is_dash as is_dash_word, is_digits as is_digits_word, lower as in_lower};
+ghost use Rattle.wf_model.specs.Letters.{begins, behind as behind_front, is_among};
+ghost use Rattle.wf_model.specs.Letters.{is_dash as is_dash_word, is_digits as is_digits_word};
+ghost use Rattle.wf_model.specs.Letters.{lower as in_lower};
 ghost use Rattle.wf_model.specs.Registry.{known_names, names_known};
 ghost use Rattle.wf_registry.specs.Sorts.{declared_of};
 ghost use Rattle.wf_registry.specs.Unknown.{AreKnownBelow, IsFirstUnknown};
@@ -45,7 +48,8 @@ fn are_declared(
     listed: Listed,
     names: &[u8],
 ) -> Result<bool, AllocError>
-    ensures { IfOk result (λ b. b ≡ list_all (λ name. is_among (in_lower name) (declared_of listed all.now)) (slice_split is_comma names.now)) }
+    ensures { IfOk result (λ b. b ≡ list_all (λ name.
+        is_among (in_lower name) (declared_of listed all.now)) (slice_split is_comma names.now)) }
 {
     let mut rest = Some(names);
     while let Some(bytes) = rest {
@@ -87,7 +91,8 @@ fn group_known(
     listed: Listed,
     group: &[u8],
 ) -> Result<bool, AllocError>
-    ensures { IfOk result (λ b. b ≡ list_all (λ name. is_among (in_lower name) (declared_of listed all.now)) (names_in group.now)) }
+    ensures { IfOk result (λ b. b ≡ list_all
+        (λ name. is_among (in_lower name) (declared_of listed all.now)) (names_in group.now)) }
 {
     are_declared(alloc, all, listed, behind_colon(group))
 }
@@ -127,7 +132,8 @@ fn are_known(all: &Declared, dims: &[u8]) -> bool
 
 /// Whether the rconfig that the how column of a dimspec names, if any, is one of type integer.
 fn is_extent_known(alloc: Global, all: &Declared, how: &[u8]) -> Result<bool, AllocError>
-    ensures { IfOk result (λ b. b ≡ (not (begins how.now by_namelist) || is_integer_rconfig all.now (in_lower (behind_front how.now by_namelist)))) }
+    ensures { IfOk result (λ b. b ≡ (not (begins how.now by_namelist)
+        || is_integer_rconfig all.now (in_lower (behind_front how.now by_namelist)))) }
 {
     match behind(how, b"namelist=") {
         Some(name) => {
@@ -140,7 +146,8 @@ fn is_extent_known(alloc: Global, all: &Declared, how: &[u8]) -> Result<bool, Al
 
 /// Whether a number of entries is digits, `max_domains`, or the name of an rconfig.
 fn is_count_known(alloc: Global, all: &Declared, entries: &[u8]) -> Result<bool, AllocError>
-    ensures { IfOk result (λ b. b ≡ (is_digits_word entries.now || (bytes_eq (in_lower entries.now) (codes "max_domains") || declares rconfigs (in_lower entries.now) all.now))) }
+    ensures { IfOk result (λ b. b ≡ (is_digits_word entries.now || (bytes_eq (in_lower entries.now)
+        (codes "max_domains") || declares rconfigs (in_lower entries.now) all.now))) }
 {
     if is_digits(entries) {
         return Ok(true);
@@ -149,14 +156,17 @@ fn is_count_known(alloc: Global, all: &Declared, entries: &[u8]) -> Result<bool,
     Ok(name.as_slice() == b"max_domains".as_slice() || all.has_rconfig(&name))
 }
 
-/// Whether the symbol of a package is an integer rconfig or a built-in name, and its list has symbols of fields.
+/// Whether the symbol of a package is an integer rconfig or a built-in name, and its list has
+/// symbols of fields.
 fn is_package_known(
     alloc: Global,
     all: &Declared,
     symbol: &[u8],
     list: &[u8],
 ) -> Result<bool, AllocError>
-    ensures { IfOk result (λ b. b ≡ ((is_integer_rconfig all.now symbol.now || is_built_in_name symbol.now) && (is_dash_word list.now || known_names all.now list.now (flat_map entry_symbol all.now)))) }
+    ensures { IfOk result (λ b.
+        b ≡ ((is_integer_rconfig all.now symbol.now || is_built_in_name symbol.now) && (is_dash_word
+        list.now || known_names all.now list.now (flat_map entry_symbol all.now)))) }
 {
     if !all.has_integer_rconfig(symbol) && !is_built_in(symbol) {
         return Ok(false);

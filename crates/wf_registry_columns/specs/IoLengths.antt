@@ -1,5 +1,6 @@
 -- How many bytes a part of the IO column has after its first, or why there is none.
-use Rattle.std.specs.Prelude.{ℕ, ◌+◌, ◌==◌, ◌&&◌, ◌||◌, [], ◌∷◌, length, Result, Ok, Err, if◌then◌else◌}
+use Rattle.std.specs.Prelude.{ℕ, ◌+◌, ◌==◌, ◌&&◌, ◌||◌, [], ◌∷◌, length, Result, Ok, Err}
+use Rattle.std.specs.Prelude.{if◌then◌else◌}
 use Rattle.std.specs.List.{before_first, take_while}
 use Rattle.std.specs.Char.{is_ascii_digit}
 use Rattle.wf_model.specs.declared.registry.RegistryKind.{RegistryKind}
@@ -12,7 +13,8 @@ use Rattle.wf_model.specs.Io.{is_closing, is_colon}
 abbrev pub function_len : Text → Result ℕ RegistryKind
 function_len [] = Err Columns
 function_len (b ∷ bs) =
-    if (b == 40) && has is_closing bs && is_name (before_first is_colon (before_first is_closing bs))
+    if (b == 40) && has is_closing bs
+    && is_name (before_first is_colon (before_first is_closing bs))
     then Ok (length (before_first is_closing bs) + 3)
     else Err Columns
 

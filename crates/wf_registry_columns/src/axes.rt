@@ -74,7 +74,8 @@ impl Axes {
         has_letter(&self.letters, letter)
     }
 
-    /// The axis of a letter: `x`, `y` or `z`, or the byte that stood in its place; 0 where no dimspec has the letter.
+    /// The axis of a letter: `x`, `y` or `z`, or the byte that stood in its place; 0 where no
+    /// dimspec has the letter.
     pub fn axis_of(&self, letter: u8) -> u8
         ensures { result ≡ axis_of self.now letter }
     {

@@ -3,7 +3,8 @@
 ghost use Rattle.std.specs.Prelude.{◌≡◌};
 ghost use Rattle.std.specs.List.{list_all};
 ghost use Rattle.std.specs.Char.{is_ascii_alphabetic};
-ghost use Rattle.wf_model.specs.Judging.{all_known, dims_fault, is_in_order, is_stagger, stagger_fault};
+ghost use Rattle.wf_model.specs.Judging.{all_known, dims_fault, is_in_order, is_stagger};
+ghost use Rattle.wf_model.specs.Judging.{stagger_fault};
 
 use crate::axes::Axes;
 use wf_model::RegistryKind;
@@ -39,9 +40,9 @@ fn is_in_order(axes: &Axes, dims: &[u8]) -> bool
 
 /// What is wrong in the dims column of an integer field.
 ///
-/// It has the letters of an x and a y, or of an x, a z and a y dimspec. Another order or number of letters, a boundary
-/// array (`b`, where no dimspec has this letter) and braces are `Unsupported`, and what is no letter is `Columns`. A
-/// letter that no dimspec has is not judged here.
+/// It has the letters of an x and a y, or of an x, a z and a y dimspec. Another order or number of
+/// letters, a boundary array (`b`, where no dimspec has this letter) and braces are `Unsupported`,
+/// and what is no letter is `Columns`. A letter that no dimspec has is not judged here.
 pub fn dims_fault(axes: &Axes, dims: &[u8]) -> Option<RegistryKind>
     ensures { result ≡ dims_fault axes.now dims.now }
 {
@@ -78,8 +79,8 @@ fn is_stagger(word: &[u8]) -> bool
     }
 }
 
-/// What is wrong in the stagger column of an integer field: it is `-` or some of X, Y and Z, each once, and Z only where
-/// the field has a z letter.
+/// What is wrong in the stagger column of an integer field: it is `-` or some of X, Y and Z, each
+/// once, and Z only where the field has a z letter.
 pub fn stagger_fault(axes: &Axes, dims: &[u8], word: &[u8]) -> Option<RegistryKind>
     ensures { result ≡ stagger_fault axes.now dims.now word.now }
 {

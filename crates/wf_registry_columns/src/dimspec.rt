@@ -14,8 +14,8 @@ pub fn is_standard(how: &[u8]) -> bool
     how == b"standard_domain".as_slice()
 }
 
-/// What is wrong in the how column: it is `standard_domain`, `namelist=` and a name, or `constant=` and 1 to 128. A
-/// range, which has a colon, is `Unsupported`.
+/// What is wrong in the how column: it is `standard_domain`, `namelist=` and a name, or `constant=`
+/// and 1 to 128. A range, which has a colon, is `Unsupported`.
 pub fn how_fault(how: &[u8]) -> Option<RegistryKind>
     ensures { result ≡ how_fault how.now }
 {

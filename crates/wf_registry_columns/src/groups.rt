@@ -1,6 +1,7 @@
 //! Groups of names, as of a package, a halo and a period: `head:name,name;head:name`.
 
-ghost use Rattle.std.specs.Prelude.{◌≡◌, ◌==◌, ◌∷◌, ◌<◌, IfSome, length, flat_map, nat_lt, position};
+ghost use Rattle.std.specs.Prelude.{◌≡◌, ◌==◌, ◌∷◌, ◌<◌, IfSome, length, flat_map, nat_lt};
+ghost use Rattle.std.specs.Prelude.{position};
 ghost use Rattle.std.specs.List.{list_all, slice_split};
 ghost use Rattle.std.specs.Option.{option_copied};
 ghost use Rattle.wf_model.specs.Letters.{is_name};
@@ -18,8 +19,8 @@ use wf_text::{digits_up_to, is_number_within};
 pub enum Head {
     /// The word `state`, in a package.
     State,
-    /// The number of points of a halo: 4 for the cross of radius 1, or 8, 24, 48, 80, 120 or 168 for the squares of
-    /// radius 1 to 6.
+    /// The number of points of a halo: 4 for the cross of radius 1, or 8, 24, 48, 80, 120 or 168
+    /// for the squares of radius 1 to 6.
     Points,
     /// The width of a period, 1 to 6.
     Width,
@@ -27,7 +28,8 @@ pub enum Head {
 
 /// The bytes before the first `separator`, and those behind it where there is one.
 pub fn cut(bytes: &[u8], separator: u8) -> (&[u8], Option<&[u8]>)
-    ensures parts { slice_split (λ b. b == separator) bytes.now ≡ result.0.now ∷ parts_left (λ b. b == separator) (option_copied result.1) }
+    ensures parts { slice_split (λ b. b == separator) bytes.now
+        ≡ result.0.now ∷ parts_left (λ b. b == separator) (option_copied result.1) }
     ensures bound { IfSome result.1 (λ rest. length rest.now < length bytes.now) }
 {
     match place_of(bytes, separator) {
@@ -110,10 +112,12 @@ fn group_fault(group: &[u8], head: Head) -> Option<RegistryKind>
 
 /// What is wrong in groups parted by `;`, the first thing in reading order.
 ///
-/// A group without a colon, or with a word that is no name behind it, is `Columns`. A head that is not `state` is
-/// `Unsupported`, and a number of points or a width that is not allowed is `BadPoints`.
+/// A group without a colon, or with a word that is no name behind it, is `Columns`. A head that is
+/// not `state` is `Unsupported`, and a number of points or a width that is not allowed
+/// is `BadPoints`.
 pub fn groups_fault(groups: &[u8], head: Head) -> Option<RegistryKind>
-    ensures { result ≡ first_fault (flat_map (group_faults (head_rule head)) (groups_of groups.now)) }
+    ensures { result
+        ≡ first_fault (flat_map (group_faults (head_rule head)) (groups_of groups.now)) }
 {
     let mut rest = Some(groups);
     while let Some(bytes) = rest {

@@ -1,6 +1,7 @@
 //! The IO column of a state line.
 
-ghost use Rattle.std.specs.Prelude.{◌≡◌, ◌+◌, ◌<◌, ◌≤◌, IfErr, IfOk, IfSome, Some, length, position, take_while};
+ghost use Rattle.std.specs.Prelude.{◌≡◌, ◌+◌, ◌<◌, ◌≤◌, IfErr, IfOk, IfSome, Some, length};
+ghost use Rattle.std.specs.Prelude.{position, take_while};
 ghost use Rattle.std.specs.List.{before_first};
 ghost use Rattle.std.specs.Char.{is_ascii_digit};
 ghost use Rattle.wf_model.specs.Io.{io_from, io_of, is_closing, is_colon};
@@ -88,9 +89,11 @@ fn part_len(first: u8, after: &[u8]) -> Result<usize, RegistryKind>
 
 /// What stands behind the part at the front.
 fn behind_part(bytes: &[u8]) -> Result<&[u8], RegistryKind>
-    ensures read { IfOk result (λ rest. fault_of_result (io_from 0 rest.now) ≡ fault_of_result (io_from 0 bytes.now)) }
+    ensures read { IfOk result
+        (λ rest. fault_of_result (io_from 0 rest.now) ≡ fault_of_result (io_from 0 bytes.now)) }
     ensures fault { IfErr result (λ kind. fault_of_result (io_from 0 bytes.now) ≡ Some kind) }
-    ensures bound { IfOk result (λ rest. 0 < length bytes.now → length rest.now < length bytes.now) }
+    ensures bound { IfOk result (λ rest. 0 < length bytes.now
+        → length rest.now < length bytes.now) }
 {
     match bytes {
         [] => Ok(bytes),
@@ -106,8 +109,9 @@ fn behind_part(bytes: &[u8]) -> Result<&[u8], RegistryKind>
 
 /// What is wrong in the IO column.
 ///
-/// It is `-`, or a run of `i` and `h` with digits of streams, `r`, `s`, and `u`, `d` and `f` with or without `=(name)`
-/// or `=(name:anything)`. Streams in braces are `Unsupported`, anything else is `Columns`.
+/// It is `-`, or a run of `i` and `h` with digits of streams, `r`, `s`, and `u`, `d` and `f` with
+/// or without `=(name)` or `=(name:anything)`. Streams in braces are `Unsupported`, anything else
+/// is `Columns`.
 pub fn io_fault(word: &[u8]) -> Option<RegistryKind>
     ensures { result ≡ fault_of_result (io_of word.now) }
 {

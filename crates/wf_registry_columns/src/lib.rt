@@ -1,8 +1,8 @@
 //! The columns of a line of the Registry, and the rules that each keeps by itself.
 //!
-//! A line has a kind, by its first word, and columns. What is judged here needs no other line, but for the letters of
-//! dimensions. The kinds and columns are those of WRF's Registry; which of their forms are supported, and the limits,
-//! are this project's own.
+//! A line has a kind, by its first word, and columns. What is judged here needs no other line, but
+//! for the letters of dimensions. The kinds and columns are those of WRF's Registry; which of their
+//! forms are supported, and the limits, are this project's own.
 #![tactic(auto)]
 
 mod axes;

@@ -1,7 +1,8 @@
 //! The columns of an rconfig line.
 
 ghost use Rattle.std.specs.Prelude.{◌≡◌};
-ghost use Rattle.wf_model.specs.Judging.{character_fault, entries_fault, is_character, is_default, is_rconfig_how, type_fault};
+ghost use Rattle.wf_model.specs.Judging.{character_fault, entries_fault, is_character, is_default};
+ghost use Rattle.wf_model.specs.Judging.{is_rconfig_how, type_fault};
 ghost use Rattle.wf_model.specs.Entries.{is_integer};
 
 use crate::words::behind;
@@ -28,7 +29,8 @@ fn character_fault(rest: &[u8]) -> Option<RegistryKind>
     }
 }
 
-/// What is wrong in the type of an rconfig: it is `integer`, `real`, `logical`, `character` or `character*` and digits.
+/// What is wrong in the type of an rconfig: it is `integer`, `real`, `logical`, `character` or
+/// `character*` and digits.
 pub fn type_fault(kind: &[u8]) -> Option<RegistryKind>
     ensures { result ≡ type_fault kind.now }
 {

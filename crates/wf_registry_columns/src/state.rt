@@ -48,7 +48,8 @@ pub fn staggered(alloc: Global, dataset: &[u8]) -> Result<Vec<u8>, AllocError>
     joined(alloc, dataset, b"_stag")
 }
 
-/// The names of the levels of a field: its symbol, or of a field with two levels the symbol with `_1` and with `_2`.
+/// The names of the levels of a field: its symbol, or of a field with two levels the symbol with
+/// `_1` and with `_2`.
 pub fn level_names(alloc: Global, symbol: &[u8], levels: &[u8]) -> Result<Vec<Vec<u8>>, AllocError>
     ensures { IfOk result (λ v. texts v.items ≡ level_names symbol.now levels.now) }
 {
@@ -73,7 +74,8 @@ pub fn variable_of(alloc: Global, symbol: &[u8], dname: &[u8]) -> Result<Vec<u8>
     }
 }
 
-/// The names of a field that stand in files: its variable's, and of a field with two levels those of both levels too.
+/// The names of a field that stand in files: its variable's, and of a field with two levels those
+/// of both levels too.
 pub fn variables_of(
     alloc: Global,
     symbol: &[u8],

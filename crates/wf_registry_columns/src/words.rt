@@ -22,7 +22,8 @@ pub(crate) fn has_byte(bytes: &[u8], wanted: u8) -> bool
 
 /// What stands behind a front that the word begins with.
 pub fn behind<'a>(word: &'a [u8], front: &[u8]) -> Option<&'a [u8]>
-    ensures { option_copied result ≡ then_some (begins word.now front.now) (behind word.now front.now) }
+    ensures { option_copied result
+        ≡ then_some (begins word.now front.now) (behind word.now front.now) }
 {
     if !word.starts_with(front) {
         return None;

@@ -1,4 +1,5 @@
--- A config of a sound Registry is sound: its dimensions, fields, halos and periods keep their rules.
+-- A config of a sound Registry is sound: its dimensions, fields, halos and periods keep
+-- their rules.
 use Rattle.std.specs.Prelude.{◌≡◌, List, ◌∷◌, ◌++◌, flat_map, IsTrue, All, Ok, codes}
 use Rattle.wf_model.specs.declared.registry.Registry.{Registry}
 use Rattle.wf_model.specs.declared.registry.Entry.{Entry}
@@ -12,7 +13,8 @@ use Rattle.wf_model.specs.Entries as kinds
 use Rattle.wf_model.specs.Judging.{taken_datasets}
 use Rattle.wf_model.specs.Config.{config_of}
 use Rattle.wf_registry_laws.specs.EntryRules.{IsSoundDimspec, IsSoundInteger, IsSoundExchange}
-use Rattle.wf_registry_laws.specs.RegistryLaws.{AreDistinct, names_of_kind, taken_by, IsSoundRegistry}
+use Rattle.wf_registry_laws.specs.RegistryLaws.{AreDistinct, names_of_kind, taken_by}
+use Rattle.wf_registry_laws.specs.RegistryLaws.{IsSoundRegistry}
 
 -- a dimspec that keeps its rules
 abbrev pub IsSoundDimension : Entry → Type 0
@@ -20,13 +22,15 @@ IsSoundDimension (Dimspec letter how axis dataset) = IsSoundDimspec letter how a
 IsSoundDimension other = ⊥
 
 -- an integer field that keeps its rules, with letters of these dimspecs
-pub record IsActive (all : List Entry) (kind symbol dims levels stagger io dname description units : Text) : Type 0 where
+pub record IsActive (all : List Entry)
+    (kind symbol dims levels stagger io dname description units : Text) : Type 0 where
   pub integer : IsTrue (is_integer kind)
   pub named : IsTrue (is_name symbol)
   pub columns : IsSoundInteger all symbol dims levels stagger io dname description units
 
 abbrev pub IsSoundField : List Entry → Entry → Type 0
-IsSoundField all (State kind symbol dims levels stagger io dname description units) = IsActive all kind symbol dims levels stagger io dname description units
+IsSoundField all (State kind symbol dims levels stagger io dname description units) =
+    IsActive all kind symbol dims levels stagger io dname description units
 IsSoundField all other = ⊥
 
 abbrev pub IsSoundHalo : Entry → Type 0
@@ -54,4 +58,6 @@ pub record IsSoundConfig (config : Config) : Type 0 where
 
 -- what a namelist is bound to is sound
 abbrev pub ConfigsAreSound : Type 0
-ConfigsAreSound = (registry : Registry) (namelist : Namelist) (config : Config) → IsSoundRegistry registry.entries → config_of registry namelist ≡ Ok config → IsSoundConfig config
+ConfigsAreSound = (registry : Registry) (namelist : Namelist) (config : Config) →
+    IsSoundRegistry registry.entries → config_of registry namelist ≡ Ok config →
+    IsSoundConfig config

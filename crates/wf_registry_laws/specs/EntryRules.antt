@@ -2,14 +2,17 @@
 use Rattle.std.specs.Prelude.{◌≡◌, ◌⊎◌, ℕ, ◌≤◌, List, length, IsTrue, Ok, None, Option, All}
 use Rattle.std.specs.Char.{is_ascii_alphabetic}
 use Rattle.wf_model.specs.declared.registry.Entry.{Entry}
-use Rattle.wf_model.specs.declared.registry.Entry.TheVariants.{Dimspec, State, Rconfig, Package, Halo, Period}
+use Rattle.wf_model.specs.declared.registry.Entry.TheVariants.{Dimspec, State, Rconfig, Package}
+use Rattle.wf_model.specs.declared.registry.Entry.TheVariants.{Halo, Period}
 use Rattle.wf_model.specs.declared.registry.RegistryKind.{RegistryKind}
 use Rattle.wf_model.specs.Letters.{Text, is_name, is_number_within, begins, behind, is_dash}
 use Rattle.wf_model.specs.ValueForms.{has}
 use Rattle.wf_model.specs.Io.{io_of, parts_of, is_colon}
 use Rattle.wf_model.specs.Groups.{groups_of, names_in, head_of, state_head, points_head, width_head}
 use Rattle.wf_model.specs.Entries.{is_integer, is_two, variable_of}
-use Rattle.wf_model.specs.Judging.{is_standard, constant, by_namelist, all_known, is_in_order, is_stagger, has_z, is_state_type, type_fault, is_rconfig_how, entries_fault, is_default}
+use Rattle.wf_model.specs.Judging.{is_standard, constant, by_namelist, all_known, is_in_order}
+use Rattle.wf_model.specs.Judging.{is_stagger, has_z, is_state_type, type_fault, is_rconfig_how}
+use Rattle.wf_model.specs.Judging.{entries_fault, is_default}
 
 -- ---- dimspec
 
@@ -35,7 +38,8 @@ pub record IsSoundDimspec (letter : ℕ) (how : Text) (axis : ℕ) (dataset : Te
 -- ---- state
 
 -- an integer field, where these are all entries
-pub record IsSoundInteger (all : List Entry) (symbol dims levels stagger io dname description units : Text) : Type 0 where
+pub record IsSoundInteger (all : List Entry)
+    (symbol dims levels stagger io dname description units : Text) : Type 0 where
   -- two or three letters, each of a dimspec, with the axes x and y, or x, z and y
   pub count : (length dims ≡ 2) ⊎ (length dims ≡ 3)
   pub known : IsTrue (all_known all dims)
@@ -51,10 +55,12 @@ pub record IsSoundInteger (all : List Entry) (symbol dims levels stagger io dnam
   pub described : length description ≤ 256
   pub unit : length units ≤ 256
 
-pub record IsSoundState (all : List Entry) (kind symbol dims levels stagger io dname description units : Text) : Type 0 where
+pub record IsSoundState (all : List Entry)
+    (kind symbol dims levels stagger io dname description units : Text) : Type 0 where
   pub type : IsTrue (is_state_type kind)
   pub named : IsTrue (is_name symbol)
-  pub integer : IsTrue (is_integer kind) → IsSoundInteger all symbol dims levels stagger io dname description units
+  pub integer : IsTrue (is_integer kind) →
+      IsSoundInteger all symbol dims levels stagger io dname description units
 
 -- ---- rconfig and package
 
@@ -86,8 +92,10 @@ pub record IsSoundExchange (head : Text → Option RegistryKind) (name groups : 
 
 abbrev pub IsSoundEntry : List Entry → Entry → Type 0
 IsSoundEntry all (Dimspec letter how axis dataset) = IsSoundDimspec letter how axis dataset
-IsSoundEntry all (State kind symbol dims levels stagger io dname description units) = IsSoundState all kind symbol dims levels stagger io dname description units
-IsSoundEntry all (Rconfig kind symbol how entries default) = IsSoundRconfig kind symbol how entries default
+IsSoundEntry all (State kind symbol dims levels stagger io dname description units) =
+    IsSoundState all kind symbol dims levels stagger io dname description units
+IsSoundEntry all (Rconfig kind symbol how entries default) =
+    IsSoundRconfig kind symbol how entries default
 IsSoundEntry all (Package name symbol value list) = IsSoundPackage name symbol list
 IsSoundEntry all (Halo name groups) = IsSoundExchange points_head name groups
 IsSoundEntry all (Period name groups) = IsSoundExchange width_head name groups

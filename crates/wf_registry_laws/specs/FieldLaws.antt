@@ -1,5 +1,7 @@
--- The field levels of a sound config are ranged, each has its pair, and a table names them in their order.
-use Rattle.std.specs.Prelude.{◌≡◌, ℕ, ◌<◌, Bool, List, map, length, ℤ, pos, ◌≤ℤ◌, unsigned_abs, All, None, slice_index_or}
+-- The field levels of a sound config are ranged, each has its pair, and a table names them in
+-- their order.
+use Rattle.std.specs.Prelude.{◌≡◌, ℕ, ◌<◌, Bool, List, map, length, ℤ, pos, ◌≤ℤ◌, unsigned_abs, All}
+use Rattle.std.specs.Prelude.{None, slice_index_or}
 use Rattle.wf_model.specs.declared.config.Config.{Config}
 use Rattle.wf_model.specs.declared.plan.Field.{Field}
 use Rattle.wf_model.specs.declared.plan.Plan.{Plan}
@@ -26,29 +28,36 @@ pub record IsRangedExtent (z : ℤ) : Type 0 where
 
 -- where each extent in z is in its range, each level is in all of its own
 abbrev pub LevelsAreRanged : Type 0
-LevelsAreRanged = (config : Config) (hooks : List HookName) → IsSoundConfig config → All IsRangedExtent (z_extents config) → All IsRangedField (field_levels config hooks)
+LevelsAreRanged = (config : Config) (hooks : List HookName) → IsSoundConfig config →
+    All IsRangedExtent (z_extents config) → All IsRangedField (field_levels config hooks)
 
 -- each level has its extent, without the sign: so there are as many
 abbrev pub LevelsHaveTheExtents : Type 0
-LevelsHaveTheExtents = (config : Config) (hooks : List HookName) → map (λ (f : Field). f.nz) (field_levels config hooks) ≡ map unsigned_abs (z_extents config)
+LevelsHaveTheExtents = (config : Config) (hooks : List HookName) →
+    map (λ (f : Field). f.nz) (field_levels config hooks) ≡ map unsigned_abs (z_extents config)
 
 -- where they are in their ranges, they are the numbers of the levels
 abbrev pub ExtentsAreTheLevels : Type 0
-ExtentsAreTheLevels = (config : Config) (hooks : List HookName) → All IsRangedExtent (z_extents config) → map (λ (f : Field). pos f.nz) (field_levels config hooks) ≡ z_extents config
+ExtentsAreTheLevels =
+    (config : Config) (hooks : List HookName) → All IsRangedExtent (z_extents config) →
+    map (λ (f : Field). pos f.nz) (field_levels config hooks) ≡ z_extents config
 
 -- by its number, in a plan of these levels; past the end both are 0
 abbrev pub ExtentsAreNumbered : Type 0
 ExtentsAreNumbered =
-    (config : Config) (hooks : List HookName) (plan : Plan) → plan.fields ≡ field_levels config hooks → All IsRangedExtent (z_extents config) →
+    (config : Config) (hooks : List HookName) (plan : Plan) →
+    plan.fields ≡ field_levels config hooks → All IsRangedExtent (z_extents config) →
     (f : ℕ) → extent_at (z_extents config) f ≡ pos (nz plan f)
 
 -- extents that a plan's test passes are in their ranges
 abbrev pub PassedExtentsAreRanged : Type 0
-PassedExtentsAreRanged = (zs : List ℤ) → first_fault (map extent_fault zs) ≡ None → All IsRangedExtent zs
+PassedExtentsAreRanged =
+    (zs : List ℤ) → first_fault (map extent_fault zs) ≡ None → All IsRangedExtent zs
 
 -- in a plan of these levels each has its pair
 abbrev pub PairsAreSound : Type 0
-PairsAreSound = (config : Config) (hooks : List HookName) (plan : Plan) → plan.fields ≡ field_levels config hooks → (f : ℕ) → IsLevel plan f → IsSoundPair plan f
+PairsAreSound = (config : Config) (hooks : List HookName) (plan : Plan) →
+    plan.fields ≡ field_levels config hooks → (f : ℕ) → IsLevel plan f → IsSoundPair plan f
 
 -- a level's name, and whether it has a z letter
 abbrev pub name_and_z : Field → Text × Bool
@@ -56,11 +65,13 @@ name_and_z f = (f.name, f.z)
 
 -- a table names the levels in their order, and says which have a z letter
 abbrev pub NamesAreTheLevels : Type 0
-NamesAreTheLevels = (config : Config) (hooks : List HookName) → let names = names_of config hooks in names.levels ≡ map name_and_z (field_levels config hooks)
+NamesAreTheLevels = (config : Config) (hooks : List HookName) →
+    let names = names_of config hooks in names.levels ≡ map name_and_z (field_levels config hooks)
 
 -- no two levels have one name
 abbrev pub LevelNamesAreDistinct : Type 0
-LevelNamesAreDistinct = (config : Config) (hooks : List HookName) → IsSoundConfig config → AreDistinct (map (λ (f : Field). f.name) (field_levels config hooks))
+LevelNamesAreDistinct = (config : Config) (hooks : List HookName) → IsSoundConfig config →
+    AreDistinct (map (λ (f : Field). f.name) (field_levels config hooks))
 
 -- the level of a number
 abbrev pub level : List Field → ℕ → Field
@@ -75,4 +86,5 @@ pub record IsNamedPair (fs : List Field) (n : Text × ℕ × ℕ) : Type 0 where
 
 -- what a table may swap are pairs of levels
 abbrev pub NamedFieldsArePairs : Type 0
-NamedFieldsArePairs = (config : Config) (hooks : List HookName) → let names = names_of config hooks in All (IsNamedPair (field_levels config hooks)) names.fields
+NamedFieldsArePairs = (config : Config) (hooks : List HookName) →
+    let names = names_of config hooks in All (IsNamedPair (field_levels config hooks)) names.fields

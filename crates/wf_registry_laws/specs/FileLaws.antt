@@ -11,5 +11,6 @@ use Rattle.wf_registry_laws.specs.FieldLaws.{field_levels}
 -- of the levels that a stream holds, beside the variable of the times
 abbrev pub FileVariablesAreDistinct : Type 0
 FileVariablesAreDistinct =
-    (config : Config) (hooks : List HookName) (plan : Plan) → IsSoundConfig config → plan.fields ≡ field_levels config hooks → (stream : ℕ) →
+    (config : Config) (hooks : List HookName) (plan : Plan) → IsSoundConfig config →
+    plan.fields ≡ field_levels config hooks → (stream : ℕ) →
     AreDistinct (codes "Times" ∷ map (variable_name plan stream) (stream_levels plan stream))

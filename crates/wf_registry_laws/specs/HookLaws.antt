@@ -13,4 +13,5 @@ pub record HasUsualArity (h : HookName) : Type 0 where
 
 -- so does each that a level has
 abbrev pub LevelsUseHooks : Type 0
-LevelsUseHooks = (config : Config) (hooks : List HookName) → All HasUsualArity hooks → All (UsesHooks hooks) (field_levels config hooks)
+LevelsUseHooks = (config : Config) (hooks : List HookName) → All HasUsualArity hooks →
+    All (UsesHooks hooks) (field_levels config hooks)

@@ -1,5 +1,7 @@
--- A Registry that was read is sound: each entry keeps the rules of its kind, and no name is declared twice.
-use Rattle.std.specs.Prelude.{◌≡◌, List, [], ◌∷◌, ◌++◌, flat_map, IsTrue, All, Ok, if◌then◌else◌, codes}
+-- A Registry that was read is sound: each entry keeps the rules of its kind, and no name is
+-- declared twice.
+use Rattle.std.specs.Prelude.{◌≡◌, List, [], ◌∷◌, ◌++◌, flat_map, IsTrue, All, Ok, if◌then◌else◌}
+use Rattle.std.specs.Prelude.{codes}
 use Rattle.std.specs.List.{IsDistinct}
 use Rattle.std.specs.Str.{bytes_eq}
 use Rattle.wf_model.specs.declared.registry.SourceFile.{SourceFile}
@@ -8,7 +10,8 @@ use Rattle.wf_model.specs.declared.registry.Entry.{Entry}
 use Rattle.wf_model.specs.declared.registry.Entry.TheVariants.{State}
 use Rattle.wf_model.specs.Letters.{Text}
 use Rattle.wf_model.specs.KeptLines.{Defines}
-use Rattle.wf_model.specs.Entries.{Kind, is_two, suffixed, same_kind, entry_name, entry_levels, entry_variables, entry_datasets}
+use Rattle.wf_model.specs.Entries.{Kind, is_two, suffixed, same_kind, entry_name, entry_levels}
+use Rattle.wf_model.specs.Entries.{entry_variables, entry_datasets}
 use Rattle.wf_model.specs.Judging.{taken_datasets}
 use Rattle.wf_model.specs.Registry.{registry_of, names_known}
 use Rattle.wf_registry_laws.specs.EntryRules.{IsSoundEntry}
@@ -23,7 +26,8 @@ names_of_kind kind e = if same_kind kind (entry_name e).0 then (entry_name e).1 
 
 -- the names that a field takes: its symbol, and those of its levels that aren't its symbol
 abbrev pub taken_by : Entry → List Text
-taken_by (State kind symbol dims levels stagger io dname description units) = symbol ∷ (if is_two levels then suffixed symbol else [])
+taken_by (State kind symbol dims levels stagger io dname description units) =
+    symbol ∷ (if is_two levels then suffixed symbol else [])
 taken_by e = []
 
 pub record IsSoundRegistry (entries : List Entry) : Type 0 where
@@ -41,4 +45,5 @@ pub record IsSoundRegistry (entries : List Entry) : Type 0 where
 
 -- what is read is sound
 abbrev pub RegistriesAreSound : Type 0
-RegistriesAreSound = (files : List SourceFile) (defines : Defines) (registry : Registry) → registry_of files defines ≡ Ok registry → IsSoundRegistry registry.entries
+RegistriesAreSound = (files : List SourceFile) (defines : Defines) (registry : Registry) →
+    registry_of files defines ≡ Ok registry → IsSoundRegistry registry.entries

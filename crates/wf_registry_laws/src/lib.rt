@@ -3,12 +3,17 @@
 
 ghost use Rattle.wf_registry_laws.specs.RegistryLaws.{RegistriesAreSound};
 ghost use Rattle.wf_registry_laws.specs.ConfigLaws.{ConfigsAreSound};
-ghost use Rattle.wf_registry_laws.specs.FieldLaws.{LevelsAreRanged, LevelsHaveTheExtents, ExtentsAreTheLevels, ExtentsAreNumbered, PassedExtentsAreRanged, PairsAreSound, NamesAreTheLevels, LevelNamesAreDistinct, NamedFieldsArePairs};
+ghost use Rattle.wf_registry_laws.specs.FieldLaws.{LevelsAreRanged, LevelsHaveTheExtents};
+ghost use Rattle.wf_registry_laws.specs.FieldLaws.{ExtentsAreTheLevels, ExtentsAreNumbered};
+ghost use Rattle.wf_registry_laws.specs.FieldLaws.{PassedExtentsAreRanged, PairsAreSound};
+ghost use Rattle.wf_registry_laws.specs.FieldLaws.{NamesAreTheLevels, LevelNamesAreDistinct};
+ghost use Rattle.wf_registry_laws.specs.FieldLaws.{NamedFieldsArePairs};
 ghost use Rattle.wf_registry_laws.specs.PartLaws.{NamedPartsAreSound};
 ghost use Rattle.wf_registry_laws.specs.FileLaws.{FileVariablesAreDistinct};
 ghost use Rattle.wf_registry_laws.specs.HookLaws.{LevelsUseHooks};
 
-/// The entries of a Registry that was read keep the rules of their kinds, and no name is declared twice.
+/// The entries of a Registry that was read keep the rules of their kinds, and no name is
+/// declared twice.
 pub fn registries_are_sound()
     ensures { RegistriesAreSound }
 {}
@@ -63,7 +68,8 @@ pub fn named_fields_are_pairs()
     ensures { NamedFieldsArePairs }
 {}
 
-/// The parts of halos and periods that a table may name have radii and widths from 1 to 6, and levels that are there.
+/// The parts of halos and periods that a table may name have radii and widths from 1 to 6, and
+/// levels that are there.
 pub fn named_parts_are_sound()
     ensures { NamedPartsAreSound }
 {}

@@ -6,7 +6,8 @@ use Rattle.wf_text.specs.Rest.{rest_read}
 use Rattle.wf_registry_lines.specs.Kinds.{kind_of}
 use Rattle.wf_registry_lines.specs.declared.ahead.FileLine.{FileLine}
 use Rattle.wf_registry_lines.specs.declared.kind.Kind.{Kind}
-use Rattle.wf_registry_lines.specs.declared.kind.Kind.TheVariants.{Ifdef, Endif, Include, Dimspec, Other}
+use Rattle.wf_registry_lines.specs.declared.kind.Kind.TheVariants.{Ifdef, Endif, Include, Dimspec}
+use Rattle.wf_registry_lines.specs.declared.kind.Kind.TheVariants.{Other}
 
 abbrev pub first_of : List Line → Line
 first_of [] = record { number = 0; words = [] }

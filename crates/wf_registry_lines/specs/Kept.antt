@@ -1,5 +1,6 @@
 -- A line that counts, as the definitions see it.
-use Rattle.std.specs.Prelude.{◌≡◌, ◌<◌, ◌≤◌, ℕ, codes, drop, length, List, [], Option, Some, None, slice_get}
+use Rattle.std.specs.Prelude.{◌≡◌, ◌<◌, ◌≤◌, ℕ, codes, drop, length, List, [], Option, Some, None}
+use Rattle.std.specs.Prelude.{slice_get}
 use Rattle.wf_model.specs.declared.registry.SourceFile.{SourceFile}
 use Rattle.std.specs.Str.{bytes_eq}
 use Rattle.wf_model.specs.Letters.{Text}
@@ -25,9 +26,14 @@ text_of (Some f) = f.text
 abbrev pub text_at : List SourceFile → ℕ → Text
 text_at files place = text_of (slice_get files place)
 
--- the line, with its file's name in place of its file's place, and its words read from its file's text
+-- the line, with its file's name in place of its file's place, and its words read from its
+-- file's text
 abbrev pub kept_in : List SourceFile → KeptLine → Kept
-kept_in files l = record { file = name_at files l.file; number = l.number; words = texts (line_at (text_at files l.file) l.from l.before) }
+kept_in files l = record {
+  file = name_at files l.file;
+  number = l.number;
+  words = texts (line_at (text_at files l.file) l.from l.before);
+}
 
 -- the line is in its file's text
 pub record IsThere (files : List SourceFile) (l : KeptLine) : Type 0 where

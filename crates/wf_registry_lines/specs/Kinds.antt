@@ -3,7 +3,8 @@ use Rattle.std.specs.Prelude.{Bool, true, false, if◌then◌else◌, codes}
 use Rattle.std.specs.Str.{bytes_eq}
 use Rattle.wf_model.specs.Letters.{Text}
 use Rattle.wf_registry_lines.specs.declared.kind.Kind.{Kind}
-use Rattle.wf_registry_lines.specs.declared.kind.Kind.TheVariants.{Ifdef, Endif, Include, Dimspec, Other}
+use Rattle.wf_registry_lines.specs.declared.kind.Kind.TheVariants.{Ifdef, Endif, Include, Dimspec}
+use Rattle.wf_registry_lines.specs.declared.kind.Kind.TheVariants.{Other}
 
 -- the word is in lower case
 abbrev pub kind_of : Text → Kind

@@ -12,7 +12,8 @@ use Rattle.wf_registry_lines.specs.declared.progress.ReadingError.TheVariants.{M
 use Rattle.wf_registry_lines.specs.Kept.{IsPlaced, kept_in, name_at}
 
 abbrev pub met_in : List SourceFile → Progress → Met
-met_in files p = record { kept = map (kept_in files) p.kept.items; lines = p.lines; files = p.files }
+met_in files p =
+    record { kept = map (kept_in files) p.kept.items; lines = p.lines; files = p.files }
 
 -- want of memory is no stop
 abbrev pub seen_in : List SourceFile → ReadingError → Option Stop
@@ -30,7 +31,8 @@ entered_in files x = (met_in files x.0, within_in x.1)
 -- reading stops at this fault, where this was read, or memory runs out
 abbrev pub IsStop : Progress → Text → ℕ → RegistryKind → ReadingError → Type 0
 IsStop p file line kind Memory = Unit {0}
-IsStop p file line kind (Stopped s) = s ≡ record { progress = p; fault = record { file = file; line = line; kind = kind } }
+IsStop p file line kind (Stopped s) =
+    s ≡ record { progress = p; fault = record { file = file; line = line; kind = kind } }
 
 -- each line that counts is one of these files
 abbrev pub ArePlaced : List SourceFile → Progress → Type 0
@@ -43,4 +45,5 @@ AreLeftPlaced files (Stopped s) = ArePlaced files s.progress
 
 -- how a file is read where those at these places are being read
 abbrev pub includes_at : ℕ → List SourceFile → Defines → List ℕ → Includes
-includes_at depth files defines reading = include_met depth files defines (map (name_at files) reading)
+includes_at depth files defines reading =
+    include_met depth files defines (map (name_at files) reading)

@@ -1,6 +1,7 @@
 //! The lines of a file that are still to be read.
 
-ghost use Rattle.std.specs.Prelude.{◌≡◌, ◌+◌, ◌<◌, ◌≤◌, ◌^◌, ℕ, IfOk, IsSome, List as Items, drop, length, map, reverse};
+ghost use Rattle.std.specs.Prelude.{◌≡◌, ◌+◌, ◌<◌, ◌≤◌, ◌^◌, ℕ, IfOk, IsSome, List as Items, drop};
+ghost use Rattle.std.specs.Prelude.{length, map, reverse};
 ghost use Rattle.std.specs.List.{All};
 ghost use Rattle.wf_model.specs.Lines.{lines_read};
 ghost use Rattle.wf_registry_lines.specs.Ahead.{kind_spare, marks, seen};
@@ -13,8 +14,8 @@ use std::alloc::{AllocError, Global};
 use wf_model::{Line, List, TextFault};
 use wf_text::{TextError, next_line};
 
-/// A line of a text, and how many bytes and physical lines stand before it. Its words are here only where they say what is
-/// read; others are read again from the text.
+/// A line of a text, and how many bytes and physical lines stand before it. Its words are here only
+/// where they say what is read; others are read again from the text.
 #[derive(Drop)]
 pub struct FileLine {
     pub kind: Kind,
@@ -30,8 +31,8 @@ pub struct FileLines {
     pub fault: Option<TextFault>,
 }
 
-/// A line, and whether an endif that would be its own follows in its file. Where the file's text has
-/// a fault further on, this is told of each line.
+/// A line, and whether an endif that would be its own follows in its file. Where the file's text
+/// has a fault further on, this is told of each line.
 #[derive(Drop)]
 pub struct AheadLine {
     pub line: FileLine,
@@ -41,7 +42,8 @@ pub struct AheadLine {
 /// A line, which loses its words where they are read again.
 fn file_line(alloc: Global, line: Line, from: u32, before: u32) -> FileLine
     ensures place { (result.from ≡ from) × (result.before ≡ before) }
-    ensures held { (text : Items ℕ) → line_at text from before ≡ line → from ≤ length text → 0 < length (rest_read before (drop from text)).lines → IsHeld text result }
+    ensures held { (text : Items ℕ) → line_at text from before ≡ line → from ≤ length text
+        → 0 < length (rest_read before (drop from text)).lines → IsHeld text result }
 {
     let kind = kind_of(&line);
     let line = match kind {
@@ -83,7 +85,8 @@ fn kept_place(at: usize) -> Result<u32, AllocError>
 
 /// The lines of a text before its first fault, and that fault.
 pub fn file_lines(alloc: Global, text: &[u8]) -> Result<FileLines, AllocError>
-    ensures lines { IfOk result (λ r. map (held text.now) r.lines.items ≡ (lines_read text.now).lines) }
+    ensures lines { IfOk result
+        (λ r. map (held text.now) r.lines.items ≡ (lines_read text.now).lines) }
     ensures fault { IfOk result (λ r. r.fault ≡ (lines_read text.now).fault) }
     ensures held { IfOk result (λ r. All (IsHeld text.now) r.lines.items) }
 {
@@ -106,7 +109,8 @@ pub fn file_lines(alloc: Global, text: &[u8]) -> Result<FileLines, AllocError>
     Ok(FileLines { lines, fault: None })
 }
 
-/// How many endifs close no ifdef among these lines, where a line of this kind is put in front of them.
+/// How many endifs close no ifdef among these lines, where a line of this kind is put in front
+/// of them.
 fn spare_with(kind: Kind, spare: usize) -> usize
     requires { spare + 1 < 2 ^ 64 }
     ensures { result ≡ kind_spare kind spare }
@@ -124,8 +128,10 @@ pub fn ahead(
     mut lines: Vec<FileLine>,
     faulty: bool,
 ) -> Result<Vec<AheadLine>, AllocError>
-    ensures marked { IfOk result (λ v. (text : Items ℕ) → All (IsHeld text) lines.items → map (seen text) (reverse v.items) ≡ marks faulty (map (held text) lines.items)) }
-    ensures held { IfOk result (λ v. (text : Items ℕ) → All (IsHeld text) lines.items → All (λ a. IsHeld text a.line) v.items) }
+    ensures marked { IfOk result (λ v. (text : Items ℕ) → All (IsHeld text) lines.items
+        → map (seen text) (reverse v.items) ≡ marks faulty (map (held text) lines.items)) }
+    ensures held { IfOk result (λ v. (text : Items ℕ) → All (IsHeld text) lines.items
+        → All (λ a. IsHeld text a.line) v.items) }
 {
     let mut ahead = Vec::with_capacity(alloc, lines.len())?;
     let mut spare: usize = 0;

@@ -3,7 +3,8 @@
 ghost use Rattle.std.specs.Prelude.{◌≡◌, ◌+◌, ◌<◌, ◌≤◌, ◌^◌, IfOk, IfSome, Some, length, position};
 ghost use Rattle.std.specs.List.{after_first, before_first};
 ghost use Rattle.wf_model.specs.KeptLines.{is_equals};
-ghost use Rattle.wf_registry_lines.specs.Conditions.{condition_kind, condition_of, deeper_kind, is_defined, shallower_kind};
+ghost use Rattle.wf_registry_lines.specs.Conditions.{condition_kind, condition_of, deeper_kind};
+ghost use Rattle.wf_registry_lines.specs.Conditions.{is_defined, shallower_kind};
 
 use crate::kind::{equal_ignoring_case, first_column};
 use wf_model::{Line, Name, RegistryKind};
@@ -85,7 +86,8 @@ pub fn deeper(
 ) -> Result<Conditions, RegistryKind>
     requires { within.keeping + within.dropping + 1 < 2 ^ 64 }
     ensures conditions { result ≡ deeper_kind defines.now line.now closed within }
-    ensures bound { IfOk result (λ c. c.keeping + c.dropping ≤ within.keeping + within.dropping + 1) }
+    ensures bound { IfOk result
+        (λ c. c.keeping + c.dropping ≤ within.keeping + within.dropping + 1) }
 {
     if within.dropping > 0 {
         return Ok(Conditions {

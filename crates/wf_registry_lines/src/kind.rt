@@ -60,7 +60,8 @@ pub fn kind_of(line: &Line) -> Kind
 
 /// The second word of a line.
 pub fn first_column(line: &Line) -> Option<&[u8]>
-    ensures { MatchOption result (first_column (columns (texts line.now)) ≡ None) (λ s. first_column (columns (texts line.now)) ≡ Some s.now) }
+    ensures { MatchOption result (first_column (columns (texts line.now)) ≡ None)
+        (λ s. first_column (columns (texts line.now)) ≡ Some s.now) }
 {
     match line.words.as_slice().get(1) {
         None => None,

@@ -1,15 +1,19 @@
 //! Files that are read inside one another.
 
-ghost use Rattle.std.specs.Prelude.{◌≡◌, ◌∷◌, ◌+◌, ◌<◌, ◌≤◌, ◌^◌, IfOk, IfSome, MatchResult, Ok, length, map, position, reverse, slice_get};
+ghost use Rattle.std.specs.Prelude.{◌≡◌, ◌∷◌, ◌+◌, ◌<◌, ◌≤◌, ◌^◌, IfOk, IfSome, MatchResult, Ok};
+ghost use Rattle.std.specs.Prelude.{length, map, position, reverse, slice_get};
 ghost use Rattle.std.specs.List.{All};
 ghost use Rattle.std.specs.Str.{bytes_eq};
-ghost use Rattle.wf_model.specs.KeptLines.{columns, fault_line, first_column, included, kept_line, registry_lines, texts, with_line};
+ghost use Rattle.wf_model.specs.KeptLines.{columns, fault_line, first_column, included, kept_line};
+ghost use Rattle.wf_model.specs.KeptLines.{registry_lines, texts, with_line};
 ghost use Rattle.wf_model.specs.Letters.{is_among};
 ghost use Rattle.wf_model.specs.Reading.{Gives};
-ghost use Rattle.wf_registry_lines.specs.Ahead.{ahead_met, entered_met, file_at_met, next_met, seen};
+ghost use Rattle.wf_registry_lines.specs.Ahead.{ahead_met, entered_met, file_at_met, next_met};
+ghost use Rattle.wf_registry_lines.specs.Ahead.{seen};
 ghost use Rattle.wf_registry_lines.specs.FileLines.{IsHeld, held};
 ghost use Rattle.wf_registry_lines.specs.Kept.{name_at, text_at};
-ghost use Rattle.wf_registry_lines.specs.Met.{ArePlaced, AreLeftPlaced, IsStop, entered_in, includes_at, met_in, seen_in, within_in};
+ghost use Rattle.wf_registry_lines.specs.Met.{ArePlaced, AreLeftPlaced, IsStop, entered_in};
+ghost use Rattle.wf_registry_lines.specs.Met.{includes_at, met_in, seen_in, within_in};
 
 use crate::KeptLine;
 use crate::ahead::{AheadLine, FileLine, ahead, file_lines};
@@ -17,13 +21,8 @@ use crate::condition::{Conditions, deeper, shallower};
 use crate::kind::{Kind, first_column, is_dimspec};
 use crate::progress::{Progress, ReadingError, stop};
 use std::alloc::{AllocError, Global};
+use wf_model::limits::{REGISTRY_FILES, REGISTRY_LINES};
 use wf_model::{Bytes, Line, Name, RegistryKind, SourceFile, TextFault};
-
-/// So many files a Registry may have, `Registry` being the first.
-const MOST_FILES: u32 = 64;
-
-/// So many logical lines it may have in all files.
-const MOST_LINES: u32 = 100_000;
 
 /// The files, and the names that are defined.
 #[derive(Drop)]
@@ -95,8 +94,11 @@ impl Reader<'_> {
     ) -> Result<(Progress, Conditions), ReadingError>
         requires place { place < length self.now.files.now }
         requires placed { ArePlaced self.now.files.now progress }
-        ensures read { Gives (entered_in self.now.files.now) (seen_in self.now.files.now) result (entered_met (met_in self.now.files.now progress) (name_at self.now.files.now place) line within) }
-        ensures placed { MatchResult result (λ x. ArePlaced self.now.files.now x.0) (λ e. AreLeftPlaced self.now.files.now e) }
+        ensures read { Gives (entered_in self.now.files.now) (seen_in self.now.files.now) result
+            (entered_met (met_in self.now.files.now progress)
+            (name_at self.now.files.now place) line within) }
+        ensures placed { MatchResult result (λ x. ArePlaced self.now.files.now x.0)
+            (λ e. AreLeftPlaced self.now.files.now e) }
         ensures within { IfOk result (λ x. within ≡ Ok x.1) }
     {
         match within {
@@ -115,8 +117,11 @@ impl Reader<'_> {
         requires place { place < length self.now.files.now }
         requires held { IsHeld (text_at self.now.files.now place) line.now }
         requires placed { ArePlaced self.now.files.now progress }
-        ensures read { Gives (met_in self.now.files.now) (seen_in self.now.files.now) result (Ok (with_line (met_in self.now.files.now progress) (kept_line (name_at self.now.files.now place) (held (text_at self.now.files.now place) line.now)))) }
-        ensures placed { MatchResult result (λ p. ArePlaced self.now.files.now p) (λ e. AreLeftPlaced self.now.files.now e) }
+        ensures read { Gives (met_in self.now.files.now) (seen_in self.now.files.now) result
+            (Ok (with_line (met_in self.now.files.now progress) (kept_line (name_at
+            self.now.files.now place) (held (text_at self.now.files.now place) line.now)))) }
+        ensures placed { MatchResult result (λ p. ArePlaced self.now.files.now p)
+            (λ e. AreLeftPlaced self.now.files.now e) }
     {
         progress.kept.push(KeptLine {
             file: place,
@@ -142,10 +147,13 @@ impl Reader<'_> {
         requires place { place < length self.now.files.now }
         requires reading { All (λ k. k < length self.now.files.now) reading.now }
         requires placed { ArePlaced self.now.files.now progress }
-        ensures read { Gives (met_in self.now.files.now) (seen_in self.now.files.now) result (includes_at depth self.now.files.now self.now.defines.now reading.now (met_in self.now.files.now progress) (name_at self.now.files.now place) line name.now) }
-        ensures placed { MatchResult result (λ p. ArePlaced self.now.files.now p) (λ e. AreLeftPlaced self.now.files.now e) }
+        ensures read { Gives (met_in self.now.files.now) (seen_in self.now.files.now) result
+            (includes_at depth self.now.files.now self.now.defines.now reading.now
+            (met_in self.now.files.now progress) (name_at self.now.files.now place) line name.now) }
+        ensures placed { MatchResult result (λ p. ArePlaced self.now.files.now p)
+            (λ e. AreLeftPlaced self.now.files.now e) }
     {
-        if depth == 0 || progress.files >= MOST_FILES {
+        if depth == 0 || progress.files >= REGISTRY_FILES {
             return Err(self.stop(place, line, RegistryKind::TooLong, progress));
         }
         if is_among(self.files, name, reading) {
@@ -178,8 +186,12 @@ impl Reader<'_> {
         requires place { place < length self.now.files.now }
         requires reading { All (λ k. k < length self.now.files.now) reading.now }
         requires placed { ArePlaced self.now.files.now progress }
-        ensures read { Gives (met_in self.now.files.now) (seen_in self.now.files.now) result (included (includes_at depth self.now.files.now self.now.defines.now reading.now) (met_in self.now.files.now progress) (name_at self.now.files.now place) line.now.number (first_column (columns (texts line.now)))) }
-        ensures placed { MatchResult result (λ p. ArePlaced self.now.files.now p) (λ e. AreLeftPlaced self.now.files.now e) }
+        ensures read { Gives (met_in self.now.files.now) (seen_in self.now.files.now) result
+            (included (includes_at depth self.now.files.now self.now.defines.now reading.now)
+            (met_in self.now.files.now progress) (name_at self.now.files.now place) line.now.number
+            (first_column (columns (texts line.now)))) }
+        ensures placed { MatchResult result (λ p. ArePlaced self.now.files.now p)
+            (λ e. AreLeftPlaced self.now.files.now e) }
     {
         match first_column(line) {
             None => Err(self.stop(place, line.number, RegistryKind::Columns, progress)),
@@ -203,12 +215,18 @@ impl Reader<'_> {
         requires held { IsHeld (text_at self.now.files.now place) next.line }
         requires within { within.keeping + within.dropping + 1 < 2 ^ 64 }
         requires placed { ArePlaced self.now.files.now progress }
-        ensures read { Gives (entered_in self.now.files.now) (seen_in self.now.files.now) result (next_met self.now.defines.now (includes_at depth self.now.files.now self.now.defines.now reading.now) (name_at self.now.files.now place) (met_in self.now.files.now progress) (within_in within) (seen (text_at self.now.files.now place) next)) }
-        ensures placed { MatchResult result (λ x. ArePlaced self.now.files.now x.0) (λ e. AreLeftPlaced self.now.files.now e) }
-        ensures within { IfOk result (λ x. x.1.keeping + x.1.dropping ≤ within.keeping + within.dropping + 1) }
+        ensures read { Gives (entered_in self.now.files.now) (seen_in self.now.files.now) result
+            (next_met self.now.defines.now
+            (includes_at depth self.now.files.now self.now.defines.now reading.now)
+            (name_at self.now.files.now place) (met_in self.now.files.now progress)
+            (within_in within) (seen (text_at self.now.files.now place) next)) }
+        ensures placed { MatchResult result (λ x. ArePlaced self.now.files.now x.0)
+            (λ e. AreLeftPlaced self.now.files.now e) }
+        ensures within { IfOk result
+            (λ x. x.1.keeping + x.1.dropping ≤ within.keeping + within.dropping + 1) }
     {
         let line = &next.line.line;
-        if progress.lines >= MOST_LINES {
+        if progress.lines >= REGISTRY_LINES {
             return Err(self.stop(place, line.number, RegistryKind::TooLong, progress));
         }
         progress.lines += 1;
@@ -244,8 +262,13 @@ impl Reader<'_> {
         requires reading { All (λ k. k < length self.now.files.now) reading.now }
         requires held { All (λ a. IsHeld (text_at self.now.files.now place) a.line) ahead.items }
         requires placed { ArePlaced self.now.files.now progress }
-        ensures read { Gives (met_in self.now.files.now) (seen_in self.now.files.now) result (ahead_met self.now.defines.now (includes_at depth self.now.files.now self.now.defines.now reading.now) (name_at self.now.files.now place) (met_in self.now.files.now progress) (record { keeping = 0; dropping = 0 }) (map (seen (text_at self.now.files.now place)) (reverse ahead.items))) }
-        ensures placed { MatchResult result (λ p. ArePlaced self.now.files.now p) (λ e. AreLeftPlaced self.now.files.now e) }
+        ensures read { Gives (met_in self.now.files.now) (seen_in self.now.files.now) result
+            (ahead_met self.now.defines.now (includes_at depth self.now.files.now
+            self.now.defines.now reading.now) (name_at self.now.files.now place)
+            (met_in self.now.files.now progress) (record { keeping = 0; dropping = 0 })
+            (map (seen (text_at self.now.files.now place)) (reverse ahead.items))) }
+        ensures placed { MatchResult result (λ p. ArePlaced self.now.files.now p)
+            (λ e. AreLeftPlaced self.now.files.now e) }
     {
         let mut within = Conditions {
             keeping: 0,
@@ -271,8 +294,12 @@ impl Reader<'_> {
         requires place { place < length self.now.files.now }
         requires reading { All (λ k. k < length self.now.files.now) reading.now }
         requires placed { ArePlaced self.now.files.now progress }
-        ensures read { Gives (met_in self.now.files.now) (seen_in self.now.files.now) result (file_at_met self.now.defines.now (includes_at depth self.now.files.now self.now.defines.now reading.now) (met_in self.now.files.now progress) (slice_get self.now.files.now place)) }
-        ensures placed { MatchResult result (λ p. ArePlaced self.now.files.now p) (λ e. AreLeftPlaced self.now.files.now e) }
+        ensures read { Gives (met_in self.now.files.now) (seen_in self.now.files.now) result
+            (file_at_met self.now.defines.now
+            (includes_at depth self.now.files.now self.now.defines.now reading.now)
+            (met_in self.now.files.now progress) (slice_get self.now.files.now place)) }
+        ensures placed { MatchResult result (λ p. ArePlaced self.now.files.now p)
+            (λ e. AreLeftPlaced self.now.files.now e) }
     {
         let Ok(text) = str::from_utf8(self.files[place].text.as_slice()) else {
             return Err(self.stop(place, 0, RegistryKind::NotText, progress));
@@ -290,8 +317,10 @@ impl Reader<'_> {
 
     /// Reads all lines that count, from the file `Registry` on.
     pub fn registry(&self) -> Result<Progress, ReadingError>
-        ensures read { Gives (met_in self.now.files.now) (seen_in self.now.files.now) result (registry_lines self.now.files.now self.now.defines.now) }
-        ensures placed { MatchResult result (λ p. ArePlaced self.now.files.now p) (λ e. AreLeftPlaced self.now.files.now e) }
+        ensures read { Gives (met_in self.now.files.now) (seen_in self.now.files.now) result
+            (registry_lines self.now.files.now self.now.defines.now) }
+        ensures placed { MatchResult result (λ p. ArePlaced self.now.files.now p)
+            (λ e. AreLeftPlaced self.now.files.now e) }
     {
         let progress = Progress {
             kept: Vec::new(self.alloc),
@@ -303,7 +332,7 @@ impl Reader<'_> {
                 let kind = RegistryKind::MissingFile;
                 Err(stop(self.alloc, progress, b"Registry", 0, kind))
             }
-            Some(place) => self.file(MOST_FILES, &[place], place, progress),
+            Some(place) => self.file(REGISTRY_FILES, &[place], place, progress),
         }
     }
 }

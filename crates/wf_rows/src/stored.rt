@@ -38,7 +38,7 @@ pub struct StoredNames {
 impl Model for StoredNames {
     ghost use Rattle.std.specs.Prelude.{List as Items, All};
     ghost use Rattle.wf_model.specs.declared.table.HookName.{HookName};
-    ghost use Rattle.wf_hooks.specs.Accepts.{HasFewArguments};
+    ghost use Rattle.wf_model.specs.Hooks.{HasFewArguments};
 
     ghost Value = { Items HookName };
 

@@ -37,7 +37,8 @@ FaultOn (setup.Refused r) file = Unit {0}
 FaultOn (setup.Store name) file = name ≡ file
 FaultOn setup.Memory file = Unit {0}
 
--- what a store tells of a fault: its count rose, and the file is that of its last call, which failed
+-- what a store tells of a fault: its count rose, and the file is that of its last call,
+-- which failed
 pub record IsFault (before after : ℕ) (failed name : Text) : Type 0 where
   pub rose : Rose before after
   pub last : failed ≡ name

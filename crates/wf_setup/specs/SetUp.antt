@@ -4,7 +4,8 @@ use Rattle.wf_model.specs.declared.plan.Plan.{Plan}
 use Rattle.wf_model.specs.Sound.{IsSoundPlan, IsRangedPlan, FilesFit}
 use Rattle.wf_stream.specs.Inputs.{StartsInTime}
 
--- it is sound, its numbers are in their ranges, its files keep within their sizes, and it has one domain
+-- it is sound, its numbers are in their ranges, its files keep within their sizes, and it has one
+-- domain
 pub record IsSinglePlan (plan : Plan) : Type 0 where
   pub sound : IsSoundPlan plan
   pub ranged : IsRangedPlan plan

@@ -7,7 +7,7 @@ ghost use Rattle.wf_model.specs.FilesRead.{plan_made, table_text};
 ghost use Rattle.wf_model.specs.PlanOf.{plan_of};
 ghost use Rattle.wf_model.specs.Refusals.{plan_refusal};
 ghost use Rattle.wf_model.specs.Sound.{CallsHooks};
-ghost use Rattle.wf_table_laws.specs.Premises.{HasRangedArity};
+ghost use Rattle.wf_model.specs.Hooks.{HasFewArguments};
 ghost use Rattle.wf_setup.specs.Errors.{refusal_of, NoFault, FaultOn, FaultTold};
 ghost use Rattle.wf_setup.specs.Asked.{OnlyRead, FaultAmong, case_names};
 ghost use Rattle.wf_setup.specs.Cases.{case_read};
@@ -25,7 +25,8 @@ use wf_model::{Config, HookName, Item, List, Name, Plan};
 use wf_plan::{PlanError, plan};
 use wf_table::{TableError, read_table};
 
-/// What a run is set up from: the config of Registry and namelist, and the plan of it and of the stencil table.
+/// What a run is set up from: the config of Registry and namelist, and the plan of it and of the
+/// stencil table.
 #[derive(Drop)]
 pub struct Case {
     pub config: Config,
@@ -40,7 +41,8 @@ fn items_of_text(
     hooks: &[HookName],
 ) -> Result<List<Item>, SetupError>
     ensures table { IfOk result (IsTableOf hooks.now config.now) }
-    ensures items { Gives (λ i. i) refusal_of result (table_text config.now hooks.now (Some text.now)) }
+    ensures items { Gives (λ i. i) refusal_of result
+        (table_text config.now hooks.now (Some text.now)) }
     ensures never { IfErr result NoFault }
 {
     let names = match names(alloc, config, hooks) {
@@ -63,9 +65,12 @@ fn items_of_store<S: Store>(
     hooks: &[HookName],
 ) -> Result<List<Item>, SetupError>
     ensures table { IfOk result (IsTableOf hooks.now config.now) }
-    ensures items { (m : Files) → S.files store.old ≡ Some m → Gives (λ i. i) refusal_of result (table_text config.now hooks.now (m (codes "stencil.table"))) }
-    ensures only { OnlyRead (S.files store.old) (S.files store.new) (S.faults store.old) (S.faults store.new) }
-    ensures fault { IfErr result (λ e. FaultTold e (S.faults store.old) (S.faults store.new) (S.failed store.new)) }
+    ensures items { (m : Files) → S.files store.old ≡ Some m → Gives (λ i. i) refusal_of result
+        (table_text config.now hooks.now (m (codes "stencil.table"))) }
+    ensures only { OnlyRead (S.files store.old) (S.files store.new) (S.faults store.old)
+        (S.faults store.new) }
+    ensures fault { IfErr result
+        (λ e. FaultTold e (S.faults store.old) (S.faults store.new) (S.failed store.new)) }
     ensures on { IfErr result (λ e. FaultOn e (codes "stencil.table")) }
 {
     match store.read(alloc, "stencil.table") {
@@ -84,7 +89,8 @@ fn plan_of_items(
     hooks: &[HookName],
 ) -> Result<Plan, SetupError>
     ensures planned { IfOk result (λ p. plan_of config.now hooks.now items ≡ Ok p) }
-    ensures plan { Gives (λ p. p) refusal_of result (told_as plan_refusal (plan_of config.now hooks.now items)) }
+    ensures plan { Gives (λ p. p) refusal_of result
+        (told_as plan_refusal (plan_of config.now hooks.now items)) }
     ensures never { IfErr result NoFault }
 {
     match plan(alloc, config, items, hooks) {
@@ -103,9 +109,12 @@ fn plan_of_store<S: Store>(
     hooks: &[HookName],
 ) -> Result<Plan, SetupError>
     ensures planned { IfOk result (IsPlanOf hooks.now config.now) }
-    ensures plan { (m : Files) → S.files store.old ≡ Some m → Gives (λ p. p) refusal_of result (plan_made hooks.now m config.now) }
-    ensures only { OnlyRead (S.files store.old) (S.files store.new) (S.faults store.old) (S.faults store.new) }
-    ensures fault { IfErr result (λ e. FaultTold e (S.faults store.old) (S.faults store.new) (S.failed store.new)) }
+    ensures plan { (m : Files) → S.files store.old ≡ Some m
+        → Gives (λ p. p) refusal_of result (plan_made hooks.now m config.now) }
+    ensures only { OnlyRead (S.files store.old) (S.files store.new) (S.faults store.old)
+        (S.faults store.new) }
+    ensures fault { IfErr result
+        (λ e. FaultTold e (S.faults store.old) (S.faults store.new) (S.failed store.new)) }
     ensures on { IfErr result (λ e. FaultOn e (codes "stencil.table")) }
 {
     match items_of_store(alloc, store, config, hooks) {
@@ -114,28 +123,33 @@ fn plan_of_store<S: Store>(
     }
 }
 
-/// The case of a store: its config, as [`read_config`] reads it, and then the plan of it and of `stencil.table`, which
-/// calls stored functions of these names.
+/// The case of a store: its config, as [`read_config`] reads it, and then the plan of it and of
+/// `stencil.table`, which calls stored functions of these names.
 ///
-/// Also where the store does not tell its files, the plan is sound, with one domain that starts within the years 1 to 9999,
-/// is no restart and writes no restart files. So the begin data of its run can be read.
+/// Also where the store does not tell its files, the plan is sound, with one domain that starts
+/// within the years 1 to 9999, is no restart and writes no restart files. So the begin data of its
+/// run can be read.
 ///
 /// # Errors
-/// Those of `read_config`; then the table's first refusal, status 4 with the line `table LINE KIND`; and then the first
-/// test of the plan that fails, status 4 with the line `plan KIND WORDS`.
+/// Those of `read_config`; then the table's first refusal, status 4 with the line `table LINE
+/// KIND`; and then the first test of the plan that fails, status 4 with the line `plan KIND WORDS`.
 pub fn read_case<S: Store>(
     alloc: Global,
     store: &mut S,
     defines: &[(Name, Name)],
     hooks: &[HookName],
 ) -> Result<Case, SetupError>
-    requires { All HasRangedArity hooks.now }
+    requires { All HasFewArguments hooks.now }
     ensures sound { IfOk result (λ c. IsSetUp c.plan) }
     ensures calls { IfOk result (λ c. All (CallsHooks hooks.now) c.plan.items) }
-    ensures case { (m : Files) → S.files store.old ≡ Some m → Gives (λ c. c) refusal_of result (case_read hooks.now m defines.now) }
-    ensures only { OnlyRead (S.files store.old) (S.files store.new) (S.faults store.old) (S.faults store.new) }
-    ensures fault { IfErr result (λ e. FaultTold e (S.faults store.old) (S.faults store.new) (S.failed store.new)) }
-    ensures asked { IfErr result (λ e. (m : Files) → S.files store.old ≡ Some m → FaultAmong e (case_names m defines.now)) }
+    ensures case { (m : Files) → S.files store.old ≡ Some m
+        → Gives (λ c. c) refusal_of result (case_read hooks.now m defines.now) }
+    ensures only { OnlyRead (S.files store.old) (S.files store.new) (S.faults store.old)
+        (S.faults store.new) }
+    ensures fault { IfErr result
+        (λ e. FaultTold e (S.faults store.old) (S.faults store.new) (S.failed store.new)) }
+    ensures asked { IfErr result (λ e. (m : Files) → S.files store.old ≡ Some m
+        → FaultAmong e (case_names m defines.now)) }
 {
     let config = match read_config(alloc, store, defines) {
         Ok(config) => config,

@@ -39,9 +39,12 @@ fn namelist_of_text(alloc: Global, text: &[u8]) -> Result<Namelist, SetupError>
 /// The namelist of a store.
 #[tactic(auto, using(crate::proofs::Faults::io_free, crate::proofs::Faults::io_on, crate::proofs::Faults::io_told, crate::proofs::Faults::tells_no_fault, crate::proofs::Faults::told_of_none, crate::proofs::Faults::on_of_none, crate::proofs::Faults::fails_free))]
 fn namelist_of_store<S: Store>(alloc: Global, store: &mut S) -> Result<Namelist, SetupError>
-    ensures namelist { (m : Files) → S.files store.old ≡ Some m → Gives (λ n. n) refusal_of result (namelist_text (m (codes "namelist.input"))) }
-    ensures only { OnlyRead (S.files store.old) (S.files store.new) (S.faults store.old) (S.faults store.new) }
-    ensures fault { IfErr result (λ e. FaultTold e (S.faults store.old) (S.faults store.new) (S.failed store.new)) }
+    ensures namelist { (m : Files) → S.files store.old ≡ Some m
+        → Gives (λ n. n) refusal_of result (namelist_text (m (codes "namelist.input"))) }
+    ensures only { OnlyRead (S.files store.old) (S.files store.new) (S.faults store.old)
+        (S.faults store.new) }
+    ensures fault { IfErr result
+        (λ e. FaultTold e (S.faults store.old) (S.faults store.new) (S.failed store.new)) }
     ensures on { IfErr result (λ e. FaultOn e (codes "namelist.input")) }
 {
     match store.read(alloc, "namelist.input") {
@@ -55,7 +58,8 @@ fn namelist_of_store<S: Store>(alloc: Global, store: &mut S) -> Result<Namelist,
 #[tactic(auto, using(crate::proofs::Faults::tells_no_fault))]
 fn bound(alloc: Global, registry: &Registry, namelist: &Namelist) -> Result<Config, SetupError>
     ensures given { IfOk result (λ c. config_of registry.now namelist.now ≡ Ok c) }
-    ensures config { Gives (λ c. c) refusal_of result (told_as config_refusal (config_of registry.now namelist.now)) }
+    ensures config { Gives (λ c. c) refusal_of result
+        (told_as config_refusal (config_of registry.now namelist.now)) }
     ensures never { IfErr result NoFault }
 {
     match bind(alloc, registry, namelist) {
@@ -65,27 +69,33 @@ fn bound(alloc: Global, registry: &Registry, namelist: &Namelist) -> Result<Conf
     }
 }
 
-/// The config of a store: its file `Registry` with the includes that it wants, and then `namelist.input`, where names are
-/// defined with these values.
+/// The config of a store: its file `Registry` with the includes that it wants, and then
+/// `namelist.input`, where names are defined with these values.
 ///
-/// Files are read one after another, and each is judged before the next one is read. A file that an include wants is read
-/// when the Registry lacks it, and the Registry is judged again with that file; a name that no store takes is of no file.
-/// The order of the tests and the lines of refusals are this project's own.
+/// Files are read one after another, and each is judged before the next one is read. A file that an
+/// include wants is read when the Registry lacks it, and the Registry is judged again with that
+/// file; a name that no store takes is of no file. The order of the tests and the lines of refusals
+/// are this project's own.
 ///
 /// # Errors
-/// The first refusal: status 2 with the line `registry FILE LINE KIND`, 3 with `namelist LINE KIND` or `config NAME KIND`.
-/// Lines count from 1, and 0 stands for a file that is missing or is no UTF-8. Or a fault of the store, which it counted,
-/// where nothing was read after; or want of memory. The store's files stay as they were.
+/// The first refusal: status 2 with the line `registry FILE LINE KIND`, 3 with `namelist LINE KIND`
+/// or `config NAME KIND`. Lines count from 1, and 0 stands for a file that is missing or is no
+/// UTF-8. Or a fault of the store, which it counted, where nothing was read after; or want of
+/// memory. The store's files stay as they were.
 pub fn read_config<S: Store>(
     alloc: Global,
     store: &mut S,
     defines: &[(Name, Name)],
 ) -> Result<Config, SetupError>
     ensures bound { IfOk result (IsBoundConfig defines.now) }
-    ensures config { (m : Files) → S.files store.old ≡ Some m → Gives (λ c. c) refusal_of result (config_read m defines.now) }
-    ensures only { OnlyRead (S.files store.old) (S.files store.new) (S.faults store.old) (S.faults store.new) }
-    ensures fault { IfErr result (λ e. FaultTold e (S.faults store.old) (S.faults store.new) (S.failed store.new)) }
-    ensures asked { IfErr result (λ e. (m : Files) → S.files store.old ≡ Some m → FaultAmong e (config_names m defines.now)) }
+    ensures config { (m : Files) → S.files store.old ≡ Some m
+        → Gives (λ c. c) refusal_of result (config_read m defines.now) }
+    ensures only { OnlyRead (S.files store.old) (S.files store.new) (S.faults store.old)
+        (S.faults store.new) }
+    ensures fault { IfErr result
+        (λ e. FaultTold e (S.faults store.old) (S.faults store.new) (S.failed store.new)) }
+    ensures asked { IfErr result (λ e. (m : Files) → S.files store.old ≡ Some m
+        → FaultAmong e (config_names m defines.now)) }
 {
     let registry = match registry_of_store(alloc, store, defines) {
         Ok(registry) => registry,

@@ -8,8 +8,8 @@ use std::alloc::{AllocError, AllocFailed, Global};
 use wf_io::IoError;
 use wf_model::Bytes;
 
-/// A refusal: the status that a command ends with, and the one line that it prints, which ends with a line feed. A name
-/// in it has the bytes that a text has, which need not be UTF-8.
+/// A refusal: the status that a command ends with, and the one line that it prints, which ends with
+/// a line feed. A name in it has the bytes that a text has, which need not be UTF-8.
 #[derive(Drop)]
 pub struct Refused {
     pub status: u8,
@@ -21,7 +21,8 @@ pub struct Refused {
 pub enum SetupError {
     /// What was read is refused.
     Refused(Refused),
-    /// A call of the store on the file of this name failed, which the store counted. It was the last call.
+    /// A call of the store on the file of this name failed, which the store counted. It was the
+    /// last call.
     Store(Bytes),
     Memory,
 }

@@ -37,7 +37,8 @@ fn of_domain(alloc: Global, kind: &[u8], domain: u32) -> Result<Bytes, AllocErro
 }
 
 fn interval(alloc: Global, domain: u32, stream: u32) -> Result<Bytes, AllocError>
-    ensures { IfOk result (λ b. b ≡ line (codes "plan" ∷ codes "IntervalNotSteps" ∷ decimal domain ∷ decimal stream ∷ [])) }
+    ensures { IfOk result (λ b.
+        b ≡ line (codes "plan" ∷ codes "IntervalNotSteps" ∷ decimal domain ∷ decimal stream ∷ [])) }
 {
     let domain = number(alloc, domain)?;
     let stream = number(alloc, stream)?;
@@ -50,7 +51,8 @@ fn interval(alloc: Global, domain: u32, stream: u32) -> Result<Bytes, AllocError
 }
 
 fn past_levels(alloc: Global, phase: &Bytes, field: &Bytes) -> Result<Bytes, AllocError>
-    ensures { IfOk result (λ b. b ≡ line (codes "plan" ∷ codes "ReadPastLevels" ∷ phase.now ∷ field.now ∷ [])) }
+    ensures { IfOk result
+        (λ b. b ≡ line (codes "plan" ∷ codes "ReadPastLevels" ∷ phase.now ∷ field.now ∷ [])) }
 {
     let words = [
         b"ReadPastLevels".as_slice(),
@@ -61,7 +63,8 @@ fn past_levels(alloc: Global, phase: &Bytes, field: &Bytes) -> Result<Bytes, All
 }
 
 fn past_edge(alloc: Global, domain: u32, phase: &Bytes, field: &Bytes) -> Result<Bytes, AllocError>
-    ensures { IfOk result (λ b. b ≡ line (codes "plan" ∷ codes "ReadPastEdge" ∷ decimal domain ∷ phase.now ∷ field.now ∷ [])) }
+    ensures { IfOk result (λ b. b ≡ line
+        (codes "plan" ∷ codes "ReadPastEdge" ∷ decimal domain ∷ phase.now ∷ field.now ∷ [])) }
 {
     let domain = number(alloc, domain)?;
     let kind = b"ReadPastEdge".as_slice();
@@ -70,7 +73,8 @@ fn past_edge(alloc: Global, domain: u32, phase: &Bytes, field: &Bytes) -> Result
 }
 
 fn limit(alloc: Global, which: Which, value: i128) -> Result<Bytes, AllocError>
-    ensures { IfOk result (λ b. b ≡ line (codes "plan" ∷ codes "Limit" ∷ which_word which ∷ whole value ∷ [])) }
+    ensures { IfOk result
+        (λ b. b ≡ line (codes "plan" ∷ codes "Limit" ∷ which_word which ∷ whole value ∷ [])) }
 {
     let value = whole(alloc, value)?;
     let words = [b"Limit".as_slice(), which_word(which), value.as_bytes()];

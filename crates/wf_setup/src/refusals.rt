@@ -1,7 +1,9 @@
 //! The refusals of the texts that a run is set up from: their statuses and lines.
 
 ghost use Rattle.std.specs.Prelude.{◌≡◌, [], ◌∷◌, IfOk, codes, decimal};
-ghost use Rattle.wf_model.specs.Refusals.{line, registry_word, namelist_word, table_word, config_words, numbered, registry_refusal, namelist_refusal, config_refusal, table_refusal};
+ghost use Rattle.wf_model.specs.Refusals.{line, registry_word, namelist_word, table_word};
+ghost use Rattle.wf_model.specs.Refusals.{config_words, numbered, registry_refusal};
+ghost use Rattle.wf_model.specs.Refusals.{namelist_refusal, config_refusal, table_refusal};
 ghost use Rattle.wf_setup.specs.Errors.{Tells};
 
 use crate::error::{Refused, SetupError};
@@ -86,7 +88,8 @@ fn refused(status: u8, line: Bytes) -> SetupError
 }
 
 fn registry_line(alloc: Global, file: &[u8], at: u32, kind: &[u8]) -> Result<Bytes, AllocError>
-    ensures { IfOk result (λ b. b ≡ line (codes "registry" ∷ file.now ∷ decimal at ∷ kind.now ∷ [])) }
+    ensures { IfOk result
+        (λ b. b ≡ line (codes "registry" ∷ file.now ∷ decimal at ∷ kind.now ∷ [])) }
 {
     let number = number(alloc, at)?;
     line(alloc, b"registry", &[file, number.as_bytes(), kind])

@@ -7,7 +7,8 @@ ghost use Rattle.wf_model.specs.Files.{Files};
 ghost use Rattle.wf_model.specs.Refusals.{registry_refusal};
 ghost use Rattle.wf_model.specs.FilesRead.{main_source, registry_with, registry_read};
 ghost use Rattle.wf_setup.specs.Errors.{refusal_of, NoFault, FaultOn, FaultTold};
-ghost use Rattle.wf_setup.specs.Asked.{OnlyRead, FaultAmong, FaultWanted, includes_asked, registry_names};
+ghost use Rattle.wf_setup.specs.Asked.{OnlyRead, FaultAmong, FaultWanted, includes_asked};
+ghost use Rattle.wf_setup.specs.Asked.{registry_names};
 ghost use Rattle.wf_setup.specs.ReadTexts.{IsReadRegistry, IsReadStep};
 ghost use Rattle.wf_setup.specs.Steps.{step_of};
 
@@ -16,11 +17,9 @@ use crate::refusals::registry_refusal;
 use crate::sources::{read_source, wanted_source};
 use std::alloc::Global;
 use wf_io::Store;
+use wf_model::limits::REGISTRY_FILES;
 use wf_model::{Name, Registry, SourceFile};
 use wf_registry::{RegistryError, read_registry};
-
-/// The most files that are read for includes.
-const MOST_FILES: u32 = 64;
 
 /// The Registry of some files, or the file that it wants.
 #[derive(Drop)]
@@ -38,9 +37,12 @@ fn next_step<S: Store>(
     files: &[SourceFile],
 ) -> Result<Step, SetupError>
     ensures step { IfOk result (IsReadStep defines.now) }
-    ensures next { (m : Files) → S.files store.old ≡ Some m → Gives (λ s. s) refusal_of result (step_of m defines.now files.now) }
-    ensures only { OnlyRead (S.files store.old) (S.files store.new) (S.faults store.old) (S.faults store.new) }
-    ensures fault { IfErr result (λ e. FaultTold e (S.faults store.old) (S.faults store.new) (S.failed store.new)) }
+    ensures next { (m : Files) → S.files store.old ≡ Some m
+        → Gives (λ s. s) refusal_of result (step_of m defines.now files.now) }
+    ensures only { OnlyRead (S.files store.old) (S.files store.new) (S.faults store.old)
+        (S.faults store.new) }
+    ensures fault { IfErr result
+        (λ e. FaultTold e (S.faults store.old) (S.faults store.new) (S.failed store.new)) }
     ensures asked { IfErr result (λ e. FaultWanted e files.now defines.now) }
 {
     let fault = match read_registry(alloc, files, defines) {
@@ -63,7 +65,8 @@ fn judged(
     files: &[SourceFile],
 ) -> Result<Registry, SetupError>
     ensures read { IfOk result (IsReadRegistry defines.now) }
-    ensures registry { (m : Files) → Gives (λ r. r) refusal_of result (told_as registry_refusal (registry_with 0 m defines.now files.now)) }
+    ensures registry { (m : Files) → Gives (λ r. r) refusal_of result
+        (told_as registry_refusal (registry_with 0 m defines.now files.now)) }
     ensures never { IfErr result NoFault }
 {
     match read_registry(alloc, files, defines) {
@@ -81,12 +84,16 @@ fn registry_with<S: Store>(
     mut files: Vec<SourceFile>,
 ) -> Result<Registry, SetupError>
     ensures read { IfOk result (IsReadRegistry defines.now) }
-    ensures registry { (m : Files) → S.files store.old ≡ Some m → Gives (λ r. r) refusal_of result (told_as registry_refusal (registry_with most_files m defines.now files.items)) }
-    ensures only { OnlyRead (S.files store.old) (S.files store.new) (S.faults store.old) (S.faults store.new) }
-    ensures fault { IfErr result (λ e. FaultTold e (S.faults store.old) (S.faults store.new) (S.failed store.new)) }
-    ensures asked { IfErr result (λ e. (m : Files) → S.files store.old ≡ Some m → FaultAmong e (includes_asked most_files m defines.now files.items)) }
+    ensures registry { (m : Files) → S.files store.old ≡ Some m → Gives (λ r. r) refusal_of result
+        (told_as registry_refusal (registry_with most_files m defines.now files.items)) }
+    ensures only { OnlyRead (S.files store.old) (S.files store.new) (S.faults store.old)
+        (S.faults store.new) }
+    ensures fault { IfErr result
+        (λ e. FaultTold e (S.faults store.old) (S.faults store.new) (S.failed store.new)) }
+    ensures asked { IfErr result (λ e. (m : Files) → S.files store.old ≡ Some m
+        → FaultAmong e (includes_asked most_files m defines.now files.items)) }
 {
-    for _ in 0..MOST_FILES {
+    for _ in 0..REGISTRY_FILES {
         match next_step(alloc, store, defines, &files) {
             Ok(Step::Read(registry)) => return Ok(registry),
             Ok(Step::Wants(file)) => match files.push(file) {
@@ -101,10 +108,13 @@ fn registry_with<S: Store>(
 
 /// The file `Registry`, if it is there.
 fn main_files<S: Store>(alloc: Global, store: &mut S) -> Result<Vec<SourceFile>, SetupError>
-    ensures files { IfOk result (λ v. (m : Files) → S.files store.old ≡ Some m → v.items ≡ main_source (m main_file)) }
+    ensures files { IfOk result (λ v. (m : Files) → S.files store.old ≡ Some m
+        → v.items ≡ main_source (m main_file)) }
     ensures free { IfErr result (λ e. refusal_of e ≡ None) }
-    ensures only { OnlyRead (S.files store.old) (S.files store.new) (S.faults store.old) (S.faults store.new) }
-    ensures fault { IfErr result (λ e. FaultTold e (S.faults store.old) (S.faults store.new) (S.failed store.new)) }
+    ensures only { OnlyRead (S.files store.old) (S.files store.new) (S.faults store.old)
+        (S.faults store.new) }
+    ensures fault { IfErr result
+        (λ e. FaultTold e (S.faults store.old) (S.faults store.new) (S.failed store.new)) }
     ensures on { IfErr result (λ e. FaultOn e main_file) }
 {
     let found = match read_source(alloc, store, "Registry") {
@@ -128,10 +138,14 @@ pub fn registry_of_store<S: Store>(
     defines: &[(Name, Name)],
 ) -> Result<Registry, SetupError>
     ensures read { IfOk result (IsReadRegistry defines.now) }
-    ensures registry { (m : Files) → S.files store.old ≡ Some m → Gives (λ r. r) refusal_of result (registry_read m defines.now) }
-    ensures only { OnlyRead (S.files store.old) (S.files store.new) (S.faults store.old) (S.faults store.new) }
-    ensures fault { IfErr result (λ e. FaultTold e (S.faults store.old) (S.faults store.new) (S.failed store.new)) }
-    ensures asked { IfErr result (λ e. (m : Files) → S.files store.old ≡ Some m → FaultAmong e (registry_names m defines.now)) }
+    ensures registry { (m : Files) → S.files store.old ≡ Some m
+        → Gives (λ r. r) refusal_of result (registry_read m defines.now) }
+    ensures only { OnlyRead (S.files store.old) (S.files store.new) (S.faults store.old)
+        (S.faults store.new) }
+    ensures fault { IfErr result
+        (λ e. FaultTold e (S.faults store.old) (S.faults store.new) (S.failed store.new)) }
+    ensures asked { IfErr result (λ e. (m : Files) → S.files store.old ≡ Some m
+        → FaultAmong e (registry_names m defines.now)) }
 {
     match main_files(alloc, store) {
         Ok(files) => registry_with(alloc, store, defines, files),

@@ -1,6 +1,7 @@
 //! Files of the Registry, read from a store.
 
-ghost use Rattle.std.specs.Prelude.{◌≡◌, Some, None, IfOk, IfErr, IsTrue, MatchOption, option_map, false};
+ghost use Rattle.std.specs.Prelude.{◌≡◌, Some, None, IfOk, IfErr, IsTrue, MatchOption, option_map};
+ghost use Rattle.std.specs.Prelude.{false};
 ghost use Rattle.std.specs.List.{list_all};
 ghost use Rattle.wf_model.specs.Letters.{is_store_name};
 ghost use Rattle.wf_model.specs.Files.{Files};
@@ -30,7 +31,8 @@ fn is_store_name(name: &[u8]) -> bool
 
 /// The bytes as a name that a store takes.
 fn store_name(name: &[u8]) -> Option<&str>
-    ensures { MatchOption result (is_store_name name.now ≡ false) (λ s. (s.now ≡ name.now) × IsTrue (is_store_name name.now)) }
+    ensures { MatchOption result (is_store_name name.now ≡ false) (λ s. (s.now ≡ name.now)
+        × IsTrue (is_store_name name.now)) }
 {
     if !is_store_name(name) {
         return None;
@@ -59,10 +61,13 @@ pub fn read_source<S: Store>(
     name: &str,
 ) -> Result<Option<SourceFile>, SetupError>
     requires { IsTrue (is_store_name name.now) }
-    ensures found { IfOk result (λ o. (m : Files) → S.files store.old ≡ Some m → o ≡ option_map (source name.now) (m name.now)) }
+    ensures found { IfOk result (λ o. (m : Files) → S.files store.old ≡ Some m
+        → o ≡ option_map (source name.now) (m name.now)) }
     ensures free { IfErr result (λ e. refusal_of e ≡ None) }
-    ensures only { OnlyRead (S.files store.old) (S.files store.new) (S.faults store.old) (S.faults store.new) }
-    ensures fault { IfErr result (λ e. FaultTold e (S.faults store.old) (S.faults store.new) (S.failed store.new)) }
+    ensures only { OnlyRead (S.files store.old) (S.files store.new) (S.faults store.old)
+        (S.faults store.new) }
+    ensures fault { IfErr result
+        (λ e. FaultTold e (S.faults store.old) (S.faults store.new) (S.failed store.new)) }
     ensures on { IfErr result (λ e. FaultOn e name.now) }
 {
     match store.read(alloc, name) {
@@ -85,16 +90,20 @@ fn wanted(kind: &RegistryKind) -> Option<&[u8]>
     }
 }
 
-/// The file that an include wants, if it is there. A name that no store takes is of no file, and no store is asked.
+/// The file that an include wants, if it is there. A name that no store takes is of no file, and no
+/// store is asked.
 pub fn wanted_source<S: Store>(
     alloc: Global,
     store: &mut S,
     fault: &RegistryFault,
 ) -> Result<Option<SourceFile>, SetupError>
-    ensures found { IfOk result (λ o. (m : Files) → S.files store.old ≡ Some m → o ≡ wanted_source m fault.now) }
+    ensures found { IfOk result (λ o. (m : Files) → S.files store.old ≡ Some m
+        → o ≡ wanted_source m fault.now) }
     ensures free { IfErr result (λ e. refusal_of e ≡ None) }
-    ensures only { OnlyRead (S.files store.old) (S.files store.new) (S.faults store.old) (S.faults store.new) }
-    ensures fault { IfErr result (λ e. FaultTold e (S.faults store.old) (S.faults store.new) (S.failed store.new)) }
+    ensures only { OnlyRead (S.files store.old) (S.files store.new) (S.faults store.old)
+        (S.faults store.new) }
+    ensures fault { IfErr result
+        (λ e. FaultTold e (S.faults store.old) (S.faults store.new) (S.failed store.new)) }
     ensures on { IfErr result (λ e. FaultOnWanted e fault.now) }
 {
     let Some(name) = wanted(&fault.kind) else {

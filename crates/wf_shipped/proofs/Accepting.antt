@@ -3,7 +3,8 @@ use Rattle.std.proofs.Common.{List, [], ◌∷◌, codes, sym, subst, lit<, lit�
 use Rattle.std.proofs.lemmas.List.Elements.{All-cons, All-nil}
 use Rattle.wf_model.specs.declared.table.HookName.{HookName}
 use Rattle.wf_model.specs.declared.table.HookKind.TheVariants.{Call}
-use Rattle.wf_hooks.specs.Accepts.{HasFewArguments, AcceptsCalls, AcceptsHooks}
+use Rattle.wf_model.specs.Hooks.{HasFewArguments}
+use Rattle.wf_hooks.specs.Accepts.{AcceptsCalls, AcceptsHooks}
 use Rattle.wf_shipped.specs.Shipping.{AcceptsShipped, shipped_hooks}
 
 limit : HookName

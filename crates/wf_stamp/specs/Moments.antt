@@ -12,7 +12,8 @@ is_clock hour minute second = nat_lt hour 24 && nat_lt minute 60 && nat_lt secon
 
 -- the moment of a day at this hour, minute and second
 abbrev pub moment_at : Day → ℕ → ℕ → ℕ → Moment
-moment_at date hour minute second = record { date = date; second = hour * 3600 + minute * 60 + second }
+moment_at date hour minute second =
+    record { date = date; second = hour * 3600 + minute * 60 + second }
 
 -- a moment of the years 1 to 9999
 abbrev pub is_moment : Moment → Bool

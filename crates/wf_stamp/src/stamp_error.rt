@@ -4,7 +4,8 @@ use std::fmt;
 /// Why there is no text of a moment.
 #[derive(Debug, Clone, Copy, PartialEq, Eq)]
 pub enum StampError {
-    /// The moment lies past the last second of the year 9999, and a text has four digits for its year.
+    /// The moment lies past the last second of the year 9999, and a text has four digits for
+    /// its year.
     PastYear9999,
 }
 

@@ -1,4 +1,5 @@
-ghost use Rattle.std.specs.Prelude.{◌≡◌, ℕ, ◌<◌, ◌≤◌, ◌↔◌, ◌&&◌, pos, IsSome, IsTrue, IfSome, IfNone};
+ghost use Rattle.std.specs.Prelude.{◌≡◌, ℕ, ◌<◌, ◌≤◌, ◌↔◌, ◌&&◌, pos, IsSome, IsTrue, IfSome};
+ghost use Rattle.std.specs.Prelude.{IfNone};
 ghost use Rattle.wf_model.specs.Calendar.{moment_after};
 ghost use Rattle.wf_model.specs.Dates.{is_date, seconds_between};
 ghost use Rattle.wf_stamp.specs.Moments.{day_at, is_clock, is_moment, moment_at};
@@ -7,7 +8,8 @@ use jiff::civil::DateTime;
 use std::marker::Model;
 use std::time::Duration;
 
-/// A moment of the years 1 to 9999, to the second. Contracts see it as its day and the seconds since that day's midnight.
+/// A moment of the years 1 to 9999, to the second. Contracts see it as its day and the seconds
+/// since that day's midnight.
 #[derive(Debug, Drop)]
 pub struct Stamp {
     pub(crate) moment: DateTime,
@@ -26,8 +28,8 @@ impl Model for Stamp {
 }
 
 impl Stamp {
-    /// The moment of this day at this hour (0 to 23), minute and second (0 to 59). `None` exactly where the years 1 to
-    /// 9999 have no such moment.
+    /// The moment of this day at this hour (0 to 23), minute and second (0 to 59). `None` exactly
+    /// where the years 1 to 9999 have no such moment.
     pub fn new(
         year: u32,
         month: u32,
@@ -72,7 +74,8 @@ impl Stamp {
     }
 }
 
-/// How many seconds lie from the first moment to the second: fewer than 0 where the second is earlier.
+/// How many seconds lie from the first moment to the second: fewer than 0 where the second
+/// is earlier.
 pub fn between(a: &Stamp, b: &Stamp) -> i64
     ensures seconds { result ≡ seconds_between a.now b.now }
 

@@ -1,4 +1,5 @@
-ghost use Rattle.std.specs.Prelude.{◌≡◌, ◌+◌, ◌<◌, ◌≤◌, ◌↔◌, length, Err, IsOk, IsSome, IsTrue, IfOk, IfSome};
+ghost use Rattle.std.specs.Prelude.{◌≡◌, ◌+◌, ◌<◌, ◌≤◌, ◌↔◌, length, Err, IsOk, IsSome, IsTrue};
+ghost use Rattle.std.specs.Prelude.{IfOk, IfSome};
 ghost use Rattle.wf_model.specs.Calendar.{moment_after, moment_of, text_of};
 ghost use Rattle.wf_model.specs.Dates.{is_stamp, last_moment, seconds_before};
 ghost use Rattle.wf_model.specs.Letters.{digits_value};
@@ -48,8 +49,8 @@ fn text_bytes(stamp: &Stamp) -> [u8; 19]
     ]
 }
 
-/// The text of the moment that is so many seconds after the start. `PastYear9999` comes exactly where that moment is past
-/// the last second of the year 9999.
+/// The text of the moment that is so many seconds after the start. `PastYear9999` comes exactly
+/// where that moment is past the last second of the year 9999.
 pub fn stamp_text(start: &Stamp, seconds: u64) -> Result<[u8; 19], StampError>
     ensures text { IfOk result (λ text. text ≡ text_of (moment_after start.now seconds)) }
     ensures past { (result ≡ Err StampError.PastYear9999)
@@ -71,7 +72,8 @@ pub fn stamp_text(start: &Stamp, seconds: u64) -> Result<[u8; 19], StampError>
     }
 }
 
-/// The number that up to four digits say. A byte that is no digit counts as one too: the caller refuses it afterwards.
+/// The number that up to four digits say. A byte that is no digit counts as one too: the caller
+/// refuses it afterwards.
 fn number(digits: &[u8]) -> u32
     requires { length digits.now ≤ 4 }
     ensures { result ≡ digits_value digits.now }
@@ -83,8 +85,8 @@ fn number(digits: &[u8]) -> u32
     number
 }
 
-/// The moment that a text says. `None` exactly where the text is not the one that [`stamp_text`] gives of some moment of
-/// the years 1 to 9999.
+/// The moment that a text says. `None` exactly where the text is not the one that [`stamp_text`]
+/// gives of some moment of the years 1 to 9999.
 pub fn read_stamp(text: &[u8]) -> Option<Stamp>
     ensures stamp { IsSome result ↔ IsTrue (is_stamp text.now) }
     ensures moment { IfSome result (λ s. s ≡ moment_of text.now) }

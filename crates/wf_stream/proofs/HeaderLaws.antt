@@ -1,23 +1,18 @@
 -- The header of a frame's file.
-use Rattle.std.proofs.Common.{◌≡◌, ℕ, ◌<◌, ◌≤◌, List, length, Result, Ok, Err, IfOk, IsTrue, sym, ap, ◌∙◌, subst, arith}
-use Rattle.std.specs.Str.{bytes_eq}
-use Rattle.std.proofs.lemmas.Slice.Eq.{bytes_eq-Decides}
+use Rattle.std.proofs.Common.{◌≡◌, ℕ, ◌<◌, ◌≤◌, List, length, Result, Ok, Err, IfOk, sym, ap, ◌∙◌, subst, arith}
 use Rattle.wf_model.specs.declared.frame.Frame.{Frame}
 use Rattle.wf_model.specs.declared.header.Header.{Header}
 use Rattle.wf_model.specs.declared.plan.Plan.{Plan}
 use Rattle.wf_model.specs.Bytes.{header_bytes}
-use Rattle.wf_model.specs.Calendar.{moment_of, text_of}
 use Rattle.wf_model.specs.Counts.{file_records}
-use Rattle.wf_model.specs.Dates.{is_stamp}
 use Rattle.wf_model.specs.Headers.{file_header, placed}
 use Rattle.wf_model.specs.Outcome.{RunData}
 use Rattle.wf_model.specs.Plans.{begin_of}
 use Rattle.wf_model.specs.Sizes.{file_size, most_bytes}
 use Rattle.wf_model.specs.SoundRun.{IsSoundRun}
 use Rattle.wf_model.specs.Writes.{header_of, steps_at}
-use Rattle.wf_cdf.proofs.StreamSizes.{one_record_fits}
+use Rattle.wf_cdf.proofs.StreamSizes.{stamp_length, one_record_fits}
 use Rattle.wf_stream.specs.StoreWrites.{IsInRange}
-use Rattle.wf_stream.proofs.StoreNames.{both_right}
 
 -- the header from its parts
 pub header_is : (r : RunData) (frame : Frame) (plan : Plan) (start : List ℕ) (steps : ℕ) (h p : Header) → plan ≡ r.plan → start ≡ (begin_of (r.initial).begins frame.domain).start_text → steps ≡ steps_at r frame
@@ -33,10 +28,6 @@ long h = omega arith
 pub long_header : {X E : Type 0} (res : Result X E) (items : X → List ℕ) (h : Header) → IfOk res (λ v. items v ≡ header_bytes h) → IfOk res (λ v. 8 ≤ length (items v))
 long_header (Ok x) items h is = omega (arith, long h, ap length is)
 long_header (Err e) items h is = tt
-
--- a stamp has 19 characters
-stamp_length : (text : List ℕ) → IsTrue (is_stamp text) → length text ≡ 19
-stamp_length text is = ap length ((bytes_eq-Decides text (text_of (moment_of text))).0 (both_right _ (bytes_eq text (text_of (moment_of text))) is))
 
 -- a file with one record fits
 pub header_fits : (r : RunData) (frame : Frame) (h : Header) (start : List ℕ) (steps : ℕ) → IsSoundRun r → IsInRange r frame → start ≡ (begin_of (r.initial).begins frame.domain).start_text

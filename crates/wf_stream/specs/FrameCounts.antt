@@ -1,5 +1,6 @@
 -- How the frames of a run are counted, one output after another.
-use Rattle.std.specs.Prelude.{◌≡◌, ℕ, ◌+◌, ◌-◌, ◌*◌, ◌%◌, ◌^◌, ◌<◌, ◌≤◌, ◌==◌, ◌&&◌, List, [], length, filter, take, drop, if◌then◌else◌, slice_index_or}
+use Rattle.std.specs.Prelude.{◌≡◌, ℕ, ◌+◌, ◌-◌, ◌*◌, ◌%◌, ◌^◌, ◌<◌, ◌≤◌, ◌==◌, ◌&&◌, List, []}
+use Rattle.std.specs.Prelude.{length, filter, take, drop, if◌then◌else◌, slice_index_or}
 use Rattle.wf_model.specs.declared.frame.Frame.{Frame}
 use Rattle.wf_model.specs.declared.plan.Plan.{Plan}
 use Rattle.wf_model.specs.Calendar.{time_text}
@@ -29,13 +30,15 @@ no_output = record { place = 0; stream = 0; entry = no_entry }
 -- the first frame in the file that the next frame would join
 abbrev pub opener_in : Plan → ℕ → ℕ → List Output → Output
 opener_in plan d s os =
-    let like = like_outputs d s os in slice_index_or like (length like - length like % frames_per_file plan d s) no_output
+    let like = like_outputs d s os in
+    slice_index_or like (length like - length like % frames_per_file plan d s) no_output
 
 -- the file of a domain and stream behind these outputs
 pub record IsFileOf (plan : Plan) (os : List Output) (d s : ℕ) (x : StreamFile) : Type 0 where
   pub count : x.count ≡ length (like_outputs d s os)
   -- where the next frame would not be the first in its file
-  pub opened : (x.count % frames_per_file plan d s ≡ 0 → ⊥) → x.opened ≡ time_text plan.start (opener_in plan d s os).entry.time
+  pub opened : (x.count % frames_per_file plan d s ≡ 0 → ⊥) →
+      x.opened ≡ time_text plan.start (opener_in plan d s os).entry.time
 
 -- the next frame's number in its file
 abbrev pub next_record : Plan → StreamFile → Output → ℕ
@@ -43,7 +46,8 @@ next_record plan x o = x.count % frames_per_file plan o.entry.domain o.stream
 
 -- the time of the first frame in the file of the next frame
 abbrev pub next_opened : Plan → StreamFile → Output → List ℕ
-next_opened plan x o = if next_record plan x o == 0 then time_text plan.start o.entry.time else x.opened
+next_opened plan x o =
+    if next_record plan x o == 0 then time_text plan.start o.entry.time else x.opened
 
 -- the file with one more frame
 abbrev pub file_with : Plan → StreamFile → Output → StreamFile
@@ -81,7 +85,8 @@ file_place d s = (d - 1) * 11 + s
 -- the files of all domains and streams behind these outputs
 pub record AreFilesOf (plan : Plan) (os : List Output) (files : List StreamFile) : Type 0 where
   pub count : length files ≡ length plan.domains * 11
-  pub each : (d s : ℕ) → IsDomain plan d → s ≤ restart_stream → IsFileOf plan os d s (slice_index_or files (file_place d s) no_file)
+  pub each : (d s : ℕ) → IsDomain plan d → s ≤ restart_stream →
+      IsFileOf plan os d s (slice_index_or files (file_place d s) no_file)
 
 -- so many frames were given, and the next is of the entry at this place or behind it
 pub record IsUnderWay (r : RunData) (number place : ℕ) (files : List StreamFile) : Type 0 where

@@ -15,7 +15,8 @@ use Rattle.wf_stream.specs.declared.input.InputError.TheVariants as input
 
 -- each domain starts within the years 1 to 9999
 abbrev pub StartsInTime : Plan → Type 0
-StartsInTime plan = (d : ℕ) → IsDomain plan d → seconds_before (moment_of plan.start) + not_before (domain_of plan d).begins ≤ seconds_before last_moment
+StartsInTime plan = (d : ℕ) → IsDomain plan d → seconds_before (moment_of plan.start)
+    + not_before (domain_of plan d).begins ≤ seconds_before last_moment
 
 -- a fault of the store and want of memory are no refusals
 abbrev pub fault_of : InputError → Option InputFault
@@ -23,7 +24,8 @@ fault_of (input.Fault f) = Some f
 fault_of (input.Store name) = None
 fault_of input.Memory = None
 
--- what a store tells of a fault: its count rose, and the file is that of its last call, which failed
+-- what a store tells of a fault: its count rose, and the file is that of its last call,
+-- which failed
 pub record IsFault (before after : ℕ) (failed name : Text) : Type 0 where
   pub rose : Rose before after
   pub last : failed ≡ name

@@ -5,7 +5,8 @@ use Rattle.wf_model.specs.declared.header.Header.{Header}
 use Rattle.wf_model.specs.declared.plan.Plan.{Plan}
 use Rattle.wf_model.specs.declared.cdf_error.SlabError.{SlabError}
 use Rattle.wf_model.specs.declared.cdf_error.SlabError.TheVariants as slab
-use Rattle.wf_model.specs.InputOf.{slab_read, is_no_variable, is_wrong_type, is_wrong_shape, is_truncated, times, level_asked, is_input}
+use Rattle.wf_model.specs.InputOf.{slab_read, is_no_variable, is_wrong_type, is_wrong_shape}
+use Rattle.wf_model.specs.InputOf.{is_truncated, times, level_asked, is_input}
 use Rattle.wf_stream.specs.declared.slabs.SlabFaults.{SlabFaults}
 
 -- with those of one variable more
@@ -27,4 +28,5 @@ faults_of slabs = record {
 
 -- `Times` and the variables of the first n levels, where an input file gives them
 unfoldable pub slabs_up_to : Plan → ℕ → ℕ → List ℕ → Header → List (Result (List ℕ) SlabError)
-slabs_up_to plan d n bytes h = map (slab_read bytes h) (times ∷ map (level_asked plan d 0) (filter (is_input plan) (range_with_len 0 n)))
+slabs_up_to plan d n bytes h = map (slab_read bytes h)
+    (times ∷ map (level_asked plan d 0) (filter (is_input plan) (range_with_len 0 n)))

@@ -1,5 +1,6 @@
 -- What the domains of a plan begin with, and what reading it leaves of a store.
-use Rattle.std.specs.Prelude.{◌≡◌, ℕ, ◌+◌, ◌<◌, ◌≤◌, List, length, Option, Some, None, IsTrue, slice_index_or}
+use Rattle.std.specs.Prelude.{◌≡◌, ℕ, ◌+◌, ◌<◌, ◌≤◌, List, length, Option, Some, None, IsTrue}
+use Rattle.std.specs.Prelude.{slice_index_or}
 use Rattle.wf_io.specs.declared.store.IoError.{IoError}
 use Rattle.wf_io.specs.declared.store.IoError.TheVariants as io
 use Rattle.wf_io.specs.Files.{Told}
@@ -29,7 +30,8 @@ pub record FitsDomain (plan : Plan) (d : ℕ) (start : DomainStart) : Type 0 whe
 
 -- so does each of them, from domain 1 on
 abbrev pub FitDomains : Plan → List DomainStart → Type 0
-FitDomains plan starts = (k : ℕ) (none : DomainStart) → k < length starts → FitsDomain plan (k + 1) (slice_index_or starts k none)
+FitDomains plan starts = (k : ℕ) (none : DomainStart) → k < length starts →
+    FitsDomain plan (k + 1) (slice_index_or starts k none)
 
 -- ---- errors
 

@@ -1,5 +1,6 @@
 -- What a writer of frames has written, and what it needs.
-use Rattle.std.specs.Prelude.{ℕ, ◌+◌, ◌≤◌, List, length, map, filter, take, sum, sum_by, Option, Some, None, IsFalse, IsSome}
+use Rattle.std.specs.Prelude.{ℕ, ◌+◌, ◌≤◌, List, length, map, filter, take, sum, sum_by, Option}
+use Rattle.std.specs.Prelude.{Some, None, IsFalse, IsSome}
 use Rattle.wf_model.specs.declared.frame.Frame.{Frame}
 use Rattle.wf_model.specs.Files.{Files, bytes_at}
 use Rattle.wf_model.specs.Frames.{Slab, frames_of, variables_of}

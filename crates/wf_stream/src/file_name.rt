@@ -24,8 +24,8 @@ fn push_prefix(name: &mut Vec<u8>, stream: u32) -> Result<(), AllocError>
     Ok(())
 }
 
-/// The name of a stream's file, as `wrfout_d01_2000-01-01_00:00:00`. Domains count from 1; the date is that of the file's
-/// first frame.
+/// The name of a stream's file, as `wrfout_d01_2000-01-01_00:00:00`. Domains count from 1; the date
+/// is that of the file's first frame.
 pub(crate) fn file_name(
     alloc: Global,
     stream: u32,

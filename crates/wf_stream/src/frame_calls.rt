@@ -7,7 +7,8 @@ ghost use Rattle.wf_model.specs.Outcome.{script};
 ghost use Rattle.wf_model.specs.SoundRun.{IsSoundRun};
 ghost use Rattle.wf_model.specs.Streams.{one_if};
 ghost use Rattle.wf_model.specs.Writes.{frame_calls, header_of, record_of, steps_at};
-ghost use Rattle.wf_stream.specs.StoreWrites.{HasRoom, IsInRange, Wrote, opening, record_parts, with_frame};
+ghost use Rattle.wf_stream.specs.StoreWrites.{HasRoom, IsInRange, Wrote, opening, record_parts};
+ghost use Rattle.wf_stream.specs.StoreWrites.{with_frame};
 ghost use Rattle.wf_stream.specs.Writing.{HasFile};
 
 use crate::record::append_record;
@@ -27,8 +28,8 @@ fn steps_at<N: RunName>(frame: &Frame, run: &Run<'_, N>) -> u64
     run.script()[frame.place as usize].step
 }
 
-/// The header of a frame's file, with no record. A plan with a dimension named `Time`, which no Registry has, gives no
-/// header that can be written: this counts as want of memory.
+/// The header of a frame's file, with no record. A plan with a dimension named `Time`, which no
+/// Registry has, gives no header that can be written: this counts as want of memory.
 fn header_bytes<N: RunName>(
     alloc: Global,
     frame: &Frame,
@@ -71,7 +72,8 @@ fn open_file<S: Store, N: RunName>(
     requires file { name.now ≡ frame.now.file }
     requires name { IsTrue (is_store_name name.now) }
     requires there { (m : Files) → S.files store.old ≡ Some m → HasFile frame.now m }
-    ensures wrote { Wrote (opening N.run frame.now) frame.now.file (S.files store.old) (S.files store.new) (S.faults store.old) (S.faults store.new) (S.failed store.new) result }
+    ensures wrote { Wrote (opening N.run frame.now) frame.now.file (S.files store.old)
+        (S.files store.new) (S.faults store.old) (S.faults store.new) (S.failed store.new) result }
     ensures room { OnOk result (HasRoom frame.now.file (S.files store.new)) }
 {
     if !frame.first {
@@ -86,7 +88,8 @@ fn open_file<S: Store, N: RunName>(
 /// The totals with the frame of this number, whose bytes are counted already.
 fn with_record(totals: Totals, number: u32, is_first: bool) -> Totals
     requires { totals.files ≤ number }
-    ensures { result ≡ record totals { files = totals.files + one_if is_first; records = number + 1 } }
+    ensures { result
+        ≡ record totals { files = totals.files + one_if is_first; records = number + 1 } }
 {
     Totals {
         files: totals.files + u64::from(is_first),
@@ -96,8 +99,8 @@ fn with_record(totals: Totals, number: u32, is_first: bool) -> Totals
     }
 }
 
-/// Writes a frame: its file and header where it is the first in its file, its time and slabs, and the new number of
-/// records. It gives the totals with this frame.
+/// Writes a frame: its file and header where it is the first in its file, its time and slabs, and
+/// the new number of records. It gives the totals with this frame.
 pub(crate) fn write_calls<S: Store, N: RunName>(
     alloc: Global,
     store: &mut S,
@@ -108,10 +111,12 @@ pub(crate) fn write_calls<S: Store, N: RunName>(
 ) -> Result<Totals, StreamError>
     requires sound { IsSoundRun N.run }
     requires frame { IsInRange N.run frame.now }
-    requires parts { record_parts N.run N.layout frame.now.time slabs.now ≡ record_of N.run frame.now }
+    requires parts { record_parts N.run N.layout frame.now.time slabs.now
+        ≡ record_of N.run frame.now }
     requires there { (m : Files) → S.files store.old ≡ Some m → HasFile frame.now m }
     requires files { totals.files ≤ frame.now.number }
-    ensures wrote { Wrote (frame_calls N.run frame.now) frame.now.file (S.files store.old) (S.files store.new) (S.faults store.old) (S.faults store.new) (S.failed store.new) result }
+    ensures wrote { Wrote (frame_calls N.run frame.now) frame.now.file (S.files store.old)
+        (S.files store.new) (S.faults store.old) (S.faults store.new) (S.failed store.new) result }
     ensures totals { IfOk result (λ t. t ≡ with_frame N.run totals frame.now) }
 {
     let name = store_name(frame.file.as_slice());

@@ -1,6 +1,7 @@
 //! The frames of a run, one after another.
 
-ghost use Rattle.std.specs.Prelude.{◌≡◌, ℕ, ◌+◌, ◌*◌, ◌^◌, ◌<◌, ◌≤◌, ◌∷◌, [], Some, IfOk, IfSome, IfNone, OnErr, length, drop};
+ghost use Rattle.std.specs.Prelude.{◌≡◌, ℕ, ◌+◌, ◌*◌, ◌^◌, ◌<◌, ◌≤◌, ◌∷◌, [], Some, IfOk, IfSome};
+ghost use Rattle.std.specs.Prelude.{IfNone, OnErr, length, drop};
 ghost use Rattle.std.specs.List.{slice_get};
 ghost use Rattle.wf_model.specs.Calendar.{time_text};
 ghost use Rattle.wf_model.specs.Frames.{frames_of, outputs_from};
@@ -9,20 +10,19 @@ ghost use Rattle.wf_model.specs.Script.{restart_stream};
 ghost use Rattle.wf_model.specs.Sound.{IsDomain, IsRangedPlan};
 ghost use Rattle.wf_model.specs.SoundRun.{IsSoundRun};
 ghost use Rattle.wf_model.specs.Streams.{frames_per_file};
-ghost use Rattle.wf_stream.specs.FrameCounts.{IsKnownOutput, file_place, file_with, frame_in, next_opened, next_record, output};
+ghost use Rattle.wf_stream.specs.FrameCounts.{IsKnownOutput, file_place, file_with, frame_in};
+ghost use Rattle.wf_stream.specs.FrameCounts.{next_opened, next_record, output};
 ghost use Rattle.wf_stream.specs.Writing.{next_number};
 
 use crate::file_name::file_name;
 use std::alloc::{AllocError, Global};
 use std::marker::{Model, PhantomData};
+use wf_model::limits::RESTART_STREAM;
 use wf_model::{Act, Frame, Plan, Run, RunName, ScriptEntry};
 use wf_stamp::{read_stamp, stamp_text};
 
-/// The streams of a domain: 0 for history, 1 to 9 for auxiliary history, 10 for restart.
-const STREAMS: usize = 11;
-
-/// The number of the stream of restart files.
-const RESTART: u32 = 10;
+/// All streams of a domain: 0 for history, 1 to 9 for auxiliary history, 10 for restart.
+const ALL_STREAMS: usize = 11;
 
 /// An entry of the script that is a frame.
 #[derive(Clone, Copy)]
@@ -42,7 +42,8 @@ struct StreamFile {
     opened: [u8; 19],
 }
 
-/// Goes through the frames of a run in script order. Contracts see it as the number of frames that it gave.
+/// Goes through the frames of a run in script order. Contracts see it as the number of frames that
+/// it gave.
 #[derive(Drop)]
 pub struct Frames<N: RunName> {
     alloc: Global,
@@ -74,7 +75,7 @@ impl<N: RunName> Frames<N> {
         ensures { IfOk result (λ f. f ≡ 0) }
     {
         let domains = run.plan().domains.as_slice().len();
-        let Some(total) = domains.checked_mul(STREAMS) else {
+        let Some(total) = domains.checked_mul(ALL_STREAMS) else {
             return Err(AllocError);
         };
         if run.script().len() > u32::MAX as usize {
@@ -119,7 +120,8 @@ impl<N: RunName> Frames<N> {
 /// The first entry from a place on that is a frame.
 fn next_output(script: &[ScriptEntry], from: u32) -> Option<Emitted>
     requires { length script.now < 2 ^ 32 }
-    ensures found { IfSome result (λ e. outputs_from from (drop from script.now) ≡ output e ∷ outputs_from (e.place + 1) (drop (e.place + 1) script.now)) }
+    ensures found { IfSome result (λ e. outputs_from from (drop from script.now)
+        ≡ output e ∷ outputs_from (e.place + 1) (drop (e.place + 1) script.now)) }
     ensures entry { IfSome result (λ e. slice_get script.now e.place ≡ Some e.entry) }
     ensures act { IfSome result (λ e. e.entry.act ≡ Act.Emit e.stream) }
     ensures behind { IfSome result (λ e. from ≤ e.place) }
@@ -143,7 +145,7 @@ fn place_of(domain: u32, stream: u32) -> usize
     requires { 1 ≤ domain }
     ensures { result ≡ file_place domain stream }
 {
-    (domain as usize - 1) * STREAMS + stream as usize
+    (domain as usize - 1) * ALL_STREAMS + stream as usize
 }
 
 /// How many frames a file of a stream takes, 1 to 100,000. Domains count from 1.
@@ -154,7 +156,7 @@ fn frames_per_file(plan: &Plan, domain: u32, stream: u32) -> u32
     ensures value { result ≡ frames_per_file plan.now domain stream }
     ensures some { 1 ≤ result }
 {
-    if stream == RESTART {
+    if stream == RESTART_STREAM {
         return 1;
     }
     plan.domains.as_slice()[domain as usize - 1]

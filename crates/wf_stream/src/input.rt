@@ -1,18 +1,22 @@
 //! What a run begins with, from the input files of a store.
 
-ghost use Rattle.std.specs.Prelude.{◌≡◌, ◌+◌, ◌≤◌, Some, length, map, string_bytes, IfErr, IfOk, IsFalse, IsTrue};
+ghost use Rattle.std.specs.Prelude.{◌≡◌, ◌+◌, ◌≤◌, Some, length, map, string_bytes, IfErr, IfOk};
+ghost use Rattle.std.specs.Prelude.{IsFalse, IsTrue};
 ghost use Rattle.wf_io.specs.Files.{Told};
 ghost use Rattle.wf_model.specs.Calendar.{moment_of};
 ghost use Rattle.wf_model.specs.Dates.{last_moment, seconds_before};
 ghost use Rattle.wf_model.specs.Files.{Files};
-ghost use Rattle.wf_model.specs.InputOf.{domain_begin, from_file, initial_from, input_file, input_of, input_read, started};
+ghost use Rattle.wf_model.specs.InputOf.{domain_begin, from_file, initial_from, input_file};
+ghost use Rattle.wf_model.specs.InputOf.{input_of, input_read, started};
 ghost use Rattle.wf_model.specs.InputOf as begin;
 ghost use Rattle.wf_model.specs.Letters.{is_store_name};
 ghost use Rattle.wf_model.specs.Plans.{domains_of};
 ghost use Rattle.wf_model.specs.Reading.{Gives, each, told_as};
 ghost use Rattle.wf_model.specs.Sound.{IsDomain, IsFittingInitial, IsRangedPlan, IsSoundPlan};
-ghost use Rattle.wf_stream.specs.Inputs.{StartsInTime, fault_of, FaultTold, FaultAmong, input_names};
-ghost use Rattle.wf_stream.specs.Starts.{FaultOn, FitDomains, FitsDomain, IsIoError, NoFault, OnlyRead, Tells, begin_in};
+ghost use Rattle.wf_stream.specs.Inputs.{StartsInTime, fault_of, FaultTold, FaultAmong};
+ghost use Rattle.wf_stream.specs.Inputs.{input_names};
+ghost use Rattle.wf_stream.specs.Starts.{FaultOn, FitDomains, FitsDomain, IsIoError, NoFault};
+ghost use Rattle.wf_stream.specs.Starts.{OnlyRead, Tells, begin_in};
 ghost use Rattle.wf_stream.specs.declared.input.InputError.TheVariants as input;
 
 use crate::input_file::{DomainStart, FileError, read_start, with_zeros};
@@ -26,7 +30,8 @@ use wf_model::{Bytes, Initial, InputFault, InputKind, List, Plan};
 pub enum InputError {
     /// An input file is refused.
     Fault(InputFault),
-    /// A call of the store on the file of this name failed, which the store counted. It was the last call.
+    /// A call of the store on the file of this name failed, which the store counted. It was the
+    /// last call.
     Store(Bytes),
     Memory,
 }
@@ -95,7 +100,8 @@ fn start_of_bytes(
     requires domain { IsDomain plan.now number }
     requires ranged { IsRangedPlan plan.now }
     requires starts { StartsInTime plan.now }
-    ensures begin { Gives begin_in fault_of result (told_as (begin.fault_of name.now) (input_read plan.now number bytes.now)) }
+    ensures begin { Gives begin_in fault_of result
+        (told_as (begin.fault_of name.now) (input_read plan.now number bytes.now)) }
     ensures fits { IfOk result (FitsDomain plan.now number) }
     ensures never { IfErr result NoFault }
 {
@@ -118,10 +124,13 @@ fn start_of_file<S: Store>(
     requires ranged { IsRangedPlan plan.now }
     requires starts { StartsInTime plan.now }
     requires name { IsTrue (is_store_name name.now) }
-    ensures begin { (m : Files) → S.files store.old ≡ Some m → Gives begin_in fault_of result (from_file (input_read plan.now number) name.now (m name.now)) }
+    ensures begin { (m : Files) → S.files store.old ≡ Some m → Gives begin_in fault_of result
+        (from_file (input_read plan.now number) name.now (m name.now)) }
     ensures fits { IfOk result (FitsDomain plan.now number) }
-    ensures only { OnlyRead (S.files store.old) (S.files store.new) (S.faults store.old) (S.faults store.new) }
-    ensures fault { IfErr result (λ e. FaultTold e (S.faults store.old) (S.faults store.new) (S.failed store.new)) }
+    ensures only { OnlyRead (S.files store.old) (S.files store.new) (S.faults store.old)
+        (S.faults store.new) }
+    ensures fault { IfErr result
+        (λ e. FaultTold e (S.faults store.old) (S.faults store.new) (S.failed store.new)) }
     ensures on { IfErr result (λ e. FaultOn e name.now) }
 {
     match store.read(alloc, name) {
@@ -141,10 +150,13 @@ fn start_of_input<S: Store>(
     requires domain { IsDomain plan.now number }
     requires ranged { IsRangedPlan plan.now }
     requires starts { StartsInTime plan.now }
-    ensures begin { (m : Files) → S.files store.old ≡ Some m → Gives begin_in fault_of result (from_file (input_read plan.now number) (input_file number) (m (input_file number))) }
+    ensures begin { (m : Files) → S.files store.old ≡ Some m → Gives begin_in fault_of result
+        (from_file (input_read plan.now number) (input_file number) (m (input_file number))) }
     ensures fits { IfOk result (FitsDomain plan.now number) }
-    ensures only { OnlyRead (S.files store.old) (S.files store.new) (S.faults store.old) (S.faults store.new) }
-    ensures fault { IfErr result (λ e. FaultTold e (S.faults store.old) (S.faults store.new) (S.failed store.new)) }
+    ensures only { OnlyRead (S.files store.old) (S.files store.new) (S.faults store.old)
+        (S.faults store.new) }
+    ensures fault { IfErr result
+        (λ e. FaultTold e (S.faults store.old) (S.faults store.new) (S.failed store.new)) }
     ensures on { IfErr result (λ e. FaultOn e (input_file number)) }
 {
     match input_name(alloc, number) {
@@ -163,10 +175,13 @@ fn start_of_domain<S: Store>(
     requires domain { IsDomain plan.now number }
     requires ranged { IsRangedPlan plan.now }
     requires starts { StartsInTime plan.now }
-    ensures begin { (m : Files) → S.files store.old ≡ Some m → Gives begin_in fault_of result (started m plan.now number) }
+    ensures begin { (m : Files) → S.files store.old ≡ Some m
+        → Gives begin_in fault_of result (started m plan.now number) }
     ensures fits { IfOk result (FitsDomain plan.now number) }
-    ensures only { OnlyRead (S.files store.old) (S.files store.new) (S.faults store.old) (S.faults store.new) }
-    ensures fault { IfErr result (λ e. FaultTold e (S.faults store.old) (S.faults store.new) (S.failed store.new)) }
+    ensures only { OnlyRead (S.files store.old) (S.files store.new) (S.faults store.old)
+        (S.faults store.new) }
+    ensures fault { IfErr result
+        (λ e. FaultTold e (S.faults store.old) (S.faults store.new) (S.failed store.new)) }
     ensures asked { IfErr result (λ e. FaultAmong e (input_names plan.now)) }
 {
     if domain_of(plan, number).from_file {
@@ -186,11 +201,14 @@ fn starts<S: Store>(
 ) -> Result<Vec<DomainStart>, InputError>
     requires ranged { IsRangedPlan plan.now }
     requires starts { StartsInTime plan.now }
-    ensures begins { (m : Files) → S.files store.old ≡ Some m → Gives (λ v. map begin_in v.items) fault_of result (each (started m plan.now) (domains_of plan.now)) }
+    ensures begins { (m : Files) → S.files store.old ≡ Some m → Gives (λ v.
+        map begin_in v.items) fault_of result (each (started m plan.now) (domains_of plan.now)) }
     ensures count { IfOk result (λ v. length v.items ≡ length plan.now.domains) }
     ensures fits { IfOk result (λ v. FitDomains plan.now v.items) }
-    ensures only { OnlyRead (S.files store.old) (S.files store.new) (S.faults store.old) (S.faults store.new) }
-    ensures fault { IfErr result (λ e. FaultTold e (S.faults store.old) (S.faults store.new) (S.failed store.new)) }
+    ensures only { OnlyRead (S.files store.old) (S.files store.new) (S.faults store.old)
+        (S.faults store.new) }
+    ensures fault { IfErr result
+        (λ e. FaultTold e (S.faults store.old) (S.faults store.new) (S.failed store.new)) }
     ensures asked { IfErr result (λ e. FaultAmong e (input_names plan.now)) }
 {
     let mut starts = Vec::new(alloc);
@@ -222,16 +240,17 @@ fn initial_of(alloc: Global, starts: Vec<DomainStart>) -> Result<Initial, AllocE
     })
 }
 
-/// What a run begins with: of each domain that has an input file the levels that the file gives, and 0 for all others.
+/// What a run begins with: of each domain that has an input file the levels that the file gives,
+/// and 0 for all others.
 ///
-/// The files are read in order of domain, each one's header, its variables and its time. A level's variable has the field's
-/// data name, and its numbers are those of the first record.
+/// The files are read in order of domain, each one's header, its variables and its time. A level's
+/// variable has the field's data name, and its numbers are those of the first record.
 ///
 /// # Errors
-/// The first refusal, with the file's name: a missing file; what its header is refused for; over `Times` and the variables
-/// of all levels that input files give, a missing one, else a wrong type, else a wrong shape, else a file that is cut off;
-/// another time than the domain's start. Or a fault of the store, which it counted; or want of memory. The store's files
-/// stay as they were.
+/// The first refusal, with the file's name: a missing file; what its header is refused for; over
+/// `Times` and the variables of all levels that input files give, a missing one, else a wrong type,
+/// else a wrong shape, else a file that is cut off; another time than the domain's start. Or a
+/// fault of the store, which it counted; or want of memory. The store's files stay as they were.
 pub fn read_input<S: Store>(
     alloc: Global,
     store: &mut S,
@@ -241,11 +260,13 @@ pub fn read_input<S: Store>(
     requires ranged { IsRangedPlan plan.now }
     requires starts { StartsInTime plan.now }
     requires no_restart { IsFalse plan.now.restart }
-    ensures initial { (m : Files) → S.files store.old ≡ Some m → Gives (λ i. i) fault_of result (input_of m plan.now) }
+    ensures initial { (m : Files) → S.files store.old ≡ Some m
+        → Gives (λ i. i) fault_of result (input_of m plan.now) }
     ensures fits { IfOk result (IsFittingInitial plan.now) }
     ensures same { Told (S.files store.old) (S.files store.new) (λ m n. n ≡ m) }
     ensures later { S.faults store.old ≤ S.faults store.new }
-    ensures fault { IfErr result (λ e. FaultTold e (S.faults store.old) (S.faults store.new) (S.failed store.new)) }
+    ensures fault { IfErr result
+        (λ e. FaultTold e (S.faults store.old) (S.faults store.new) (S.failed store.new)) }
     ensures asked { IfErr result (λ e. FaultAmong e (input_names plan.now)) }
 {
     let starts = match starts(alloc, store, plan) {

@@ -4,7 +4,8 @@ ghost use Rattle.std.specs.Prelude.{◌≡◌, ◌+◌, ◌≤◌, [], ◌∷◌
 ghost use Rattle.std.specs.Str.{bytes_eq};
 ghost use Rattle.wf_model.specs.Calendar.{moment_of, time_text};
 ghost use Rattle.wf_model.specs.Dates.{is_stamp, last_moment, seconds_before};
-ghost use Rattle.wf_model.specs.InputOf.{all_slabs, domain_stamp, fresh, grids_read, input_read, is_input, slabs_fault, time_read, with_zeros};
+ghost use Rattle.wf_model.specs.InputOf.{all_slabs, domain_stamp, fresh, grids_read, input_read};
+ghost use Rattle.wf_model.specs.InputOf.{is_input, slabs_fault, time_read, with_zeros};
 ghost use Rattle.wf_model.specs.Plans.{domain_of};
 ghost use Rattle.wf_model.specs.Ranges.{IsRangedField};
 ghost use Rattle.wf_model.specs.Reading.{Gives, fault_unless, first_fault, unless_fault};
@@ -45,7 +46,8 @@ fn seconds_after(begins: i64) -> u64
 #[tactic(auto, unfolding(wf_model::specs::Calendar::time_text))]
 fn start_text(plan: &Plan, domain: &Domain) -> [u8; 19]
     requires stamp { IsTrue (is_stamp plan.now.start) }
-    requires starts { seconds_before (moment_of plan.now.start) + not_before domain.now.begins ≤ seconds_before last_moment }
+    requires starts { seconds_before (moment_of plan.now.start) + not_before domain.now.begins
+        ≤ seconds_before last_moment }
     ensures text { result ≡ time_text plan.now.start (not_before domain.now.begins) }
     ensures stamp { IsTrue (is_stamp result) }
 {
@@ -62,7 +64,8 @@ fn start_text(plan: &Plan, domain: &Domain) -> [u8; 19]
 fn fresh(plan: &Plan, number: u32) -> Begin
     requires domain { IsDomain plan.now number }
     requires stamp { IsTrue (is_stamp plan.now.start) }
-    requires starts { seconds_before (moment_of plan.now.start) + not_before (domain_of plan.now number).begins ≤ seconds_before last_moment }
+    requires starts { seconds_before (moment_of plan.now.start)
+        + not_before (domain_of plan.now number).begins ≤ seconds_before last_moment }
     ensures begin { result ≡ fresh plan.now number }
     ensures stamp { IsTrue (is_stamp result.start_text) }
 {
@@ -77,7 +80,8 @@ fn fresh(plan: &Plan, number: u32) -> Begin
 pub(crate) fn with_zeros(alloc: Global, plan: &Plan, number: u32) -> Result<DomainStart, AllocError>
     requires domain { IsDomain plan.now number }
     requires stamp { IsTrue (is_stamp plan.now.start) }
-    requires starts { seconds_before (moment_of plan.now.start) + not_before (domain_of plan.now number).begins ≤ seconds_before last_moment }
+    requires starts { seconds_before (moment_of plan.now.start)
+        + not_before (domain_of plan.now number).begins ≤ seconds_before last_moment }
     ensures begin { IfOk result (λ s. begin_in s ≡ with_zeros plan.now number) }
     ensures fits { IfOk result (FitsDomain plan.now number) }
 {
@@ -99,10 +103,16 @@ fn read_levels(
     requires domain { IsDomain plan.now number }
     requires fields { All IsRangedField plan.now.fields }
     requires stamp { IsTrue (is_stamp plan.now.start) }
-    requires starts { seconds_before (moment_of plan.now.start) + not_before (domain_of plan.now number).begins ≤ seconds_before last_moment }
-    ensures begin { Gives begin_in kind_of result (unless_fault (first_fault (slabs_fault bytes.now (all_slabs plan.now number 0 (is_input plan.now) bytes.now header.now)
-        ∷ fault_unless (bytes_eq (time_read bytes.now header.now) (domain_stamp plan.now number)) kind.WrongTime ∷ []))
-        (record { begin = fresh plan.now number; grids = grids_read plan.now number 0 (is_input plan.now) bytes.now header.now })) }
+    requires starts { seconds_before (moment_of plan.now.start)
+        + not_before (domain_of plan.now number).begins ≤ seconds_before last_moment }
+    ensures begin { Gives begin_in kind_of result (unless_fault (first_fault (slabs_fault bytes.now
+        (all_slabs plan.now number 0 (is_input plan.now) bytes.now header.now)
+        ∷ fault_unless (bytes_eq (time_read bytes.now header.now) (domain_stamp plan.now number))
+        kind.WrongTime ∷ []))
+        (record {
+          begin = fresh plan.now number;
+          grids = grids_read plan.now number 0 (is_input plan.now) bytes.now header.now;
+        })) }
     ensures fits { IfOk result (FitsDomain plan.now number) }
 {
     if let Some(kind) = slabs_fault(plan, number, bytes, header) {
@@ -128,7 +138,8 @@ pub(crate) fn read_start(
     requires domain { IsDomain plan.now number }
     requires fields { All IsRangedField plan.now.fields }
     requires stamp { IsTrue (is_stamp plan.now.start) }
-    requires starts { seconds_before (moment_of plan.now.start) + not_before (domain_of plan.now number).begins ≤ seconds_before last_moment }
+    requires starts { seconds_before (moment_of plan.now.start)
+        + not_before (domain_of plan.now number).begins ≤ seconds_before last_moment }
     ensures begin { Gives begin_in kind_of result (input_read plan.now number bytes.now) }
     ensures fits { IfOk result (FitsDomain plan.now number) }
 {

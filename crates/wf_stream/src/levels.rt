@@ -1,8 +1,10 @@
 //! The levels of a domain, read from an input file or filled with 0.
 
-ghost use Rattle.std.specs.Prelude.{◌≡◌, ◌+◌, ◌-◌, ◌*◌, ◌≤◌, None, [], ◌∷◌, All, length, map, IfOk, IsOk, IsTrue};
+ghost use Rattle.std.specs.Prelude.{◌≡◌, ◌+◌, ◌-◌, ◌*◌, ◌≤◌, None, [], ◌∷◌, All, length, map, IfOk};
+ghost use Rattle.std.specs.Prelude.{IsOk, IsTrue};
 ghost use Rattle.wf_model.specs.CdfRead.{ints};
-ghost use Rattle.wf_model.specs.InputOf.{all_slabs, asked, bytes_read, grids_read, is_input, level_read, slab_read, slabs_fault, zeros};
+ghost use Rattle.wf_model.specs.InputOf.{all_slabs, asked, bytes_read, grids_read, is_input};
+ghost use Rattle.wf_model.specs.InputOf.{level_read, slab_read, slabs_fault, zeros};
 ghost use Rattle.wf_model.specs.Plans.{domain_of, extra, field_of, levels_of};
 ghost use Rattle.wf_model.specs.Ranges.{IsRangedField};
 ghost use Rattle.wf_model.specs.Sizes.{product};
@@ -13,6 +15,7 @@ ghost use Rattle.wf_stream.specs.Levels.{HasLevels, asked_in, level_begin, shape
 use crate::own_points::{Extents, own_points};
 use std::alloc::{AllocError, Global};
 use wf_cdfread::{ValuesError, slab};
+use wf_model::extents::{file_points, points};
 use wf_model::{Domain, Field, Header, List, Plan};
 
 /// The domain of a number, from 1.
@@ -33,24 +36,11 @@ pub(crate) fn field_of(plan: &Plan, level: usize) -> &Field
     &plan.fields.as_slice()[level]
 }
 
-/// The points of its own in a direction: a staggered field has one more, but in a periodic direction.
-fn points(end: u32, staggered: bool, periodic: bool) -> u32
-    ensures { result ≡ end - 1 + extra staggered periodic }
-{
-    end.saturating_sub(1) + u32::from(staggered && !periodic)
-}
-
-/// The points of a direction in files: there a staggered field has its extra point in a periodic direction too.
-fn file_points(end: u32, staggered: bool) -> u32
-    ensures { result ≡ end - 1 + one_if staggered }
-{
-    end.saturating_sub(1) + u32::from(staggered)
-}
-
 fn extents_of(domain: &Domain, field: &Field) -> Extents
     ensures levels { result.levels ≡ field.now.nz }
     ensures rows { result.rows ≡ domain.now.jde - 1 + extra field.now.stag_y domain.now.periodic_y }
-    ensures columns { result.columns ≡ domain.now.ide - 1 + extra field.now.stag_x domain.now.periodic_x }
+    ensures columns { result.columns
+        ≡ domain.now.ide - 1 + extra field.now.stag_x domain.now.periodic_x }
     ensures file_rows { result.file_rows ≡ domain.now.jde - 1 + one_if field.now.stag_y }
     ensures file_columns { result.file_columns ≡ domain.now.ide - 1 + one_if field.now.stag_x }
 {
@@ -65,7 +55,8 @@ fn extents_of(domain: &Domain, field: &Field) -> Extents
 
 /// The lengths of a level in files: those in z, y and x.
 pub(crate) fn lengths_of(domain: &Domain, field: &Field) -> [u32; 3]
-    ensures { result ≡ field.now.nz ∷ (domain.now.jde - 1 + one_if field.now.stag_y) ∷ (domain.now.ide - 1 + one_if field.now.stag_x) ∷ [] }
+    ensures { result ≡ field.now.nz ∷ (domain.now.jde - 1 + one_if field.now.stag_y)
+        ∷ (domain.now.ide - 1 + one_if field.now.stag_x) ∷ [] }
 {
     [
         field.nz,
@@ -76,7 +67,8 @@ pub(crate) fn lengths_of(domain: &Domain, field: &Field) -> [u32; 3]
 
 /// The same as the shape of its variable: a field without a z letter has none in z.
 pub(crate) fn shape_of<'a>(domain: &Domain, field: &Field, lengths: &'a [u32; 3]) -> &'a [u32]
-    requires { lengths.now ≡ field.now.nz ∷ (domain.now.jde - 1 + one_if field.now.stag_y) ∷ (domain.now.ide - 1 + one_if field.now.stag_x) ∷ [] }
+    requires { lengths.now ≡ field.now.nz ∷ (domain.now.jde - 1 + one_if field.now.stag_y)
+        ∷ (domain.now.ide - 1 + one_if field.now.stag_x) ∷ [] }
     ensures { result.now ≡ shape_in domain.now field.now }
 {
     if field.z { &lengths[..] } else { &lengths[1..] }
@@ -113,7 +105,8 @@ fn numbers(
     header: &Header,
 ) -> Result<Vec<i32>, AllocError>
     requires found { IsOk (slab_read bytes.now header.now (asked_in domain.now field.now)) }
-    ensures value { IfOk result (λ v. v.items ≡ ints (product (shape_in domain.now field.now)) (bytes_read (slab_read bytes.now header.now (asked_in domain.now field.now)))) }
+    ensures value { IfOk result (λ v. v.items ≡ ints (product (shape_in domain.now field.now))
+        (bytes_read (slab_read bytes.now header.now (asked_in domain.now field.now)))) }
     ensures size { IfOk result (λ v. length v.items ≡ product (shape_in domain.now field.now)) }
 {
     let lengths = lengths_of(domain, field);
@@ -137,7 +130,8 @@ fn read_level(
     requires domain { IsDomain plan.now number }
     requires level { IsLevel plan.now level }
     requires field { IsRangedField (field_of plan.now level) }
-    requires found { IsOk (slab_read bytes.now header.now (asked_in (domain_of plan.now number) (field_of plan.now level))) }
+    requires found { IsOk (slab_read bytes.now header.now
+        (asked_in (domain_of plan.now number) (field_of plan.now level))) }
     ensures { IfOk result (λ l. l ≡ level_read plan.now number 0 bytes.now header.now level) }
 {
     let domain = domain_of(plan, number);
@@ -158,7 +152,8 @@ fn level_begin(
     requires domain { IsDomain plan.now number }
     requires level { IsLevel plan.now level }
     requires field { IsRangedField (field_of plan.now level) }
-    requires found { IsTrue (is_input plan.now level) → IsOk (slab_read bytes.now header.now (asked_in (domain_of plan.now number) (field_of plan.now level))) }
+    requires found { IsTrue (is_input plan.now level) → IsOk (slab_read bytes.now header.now
+        (asked_in (domain_of plan.now number) (field_of plan.now level))) }
     ensures { IfOk result (λ l. l ≡ level_begin plan.now number bytes.now header.now level) }
 {
     if field_of(plan, level).input {
@@ -178,8 +173,10 @@ pub(crate) fn grids_read(
 ) -> Result<List<List<i32>>, AllocError>
     requires domain { IsDomain plan.now number }
     requires fields { All IsRangedField plan.now.fields }
-    requires found { slabs_fault bytes.now (all_slabs plan.now number 0 (is_input plan.now) bytes.now header.now) ≡ None }
-    ensures value { IfOk result (λ g. g ≡ grids_read plan.now number 0 (is_input plan.now) bytes.now header.now) }
+    requires found { slabs_fault bytes.now
+        (all_slabs plan.now number 0 (is_input plan.now) bytes.now header.now) ≡ None }
+    ensures value { IfOk result
+        (λ g. g ≡ grids_read plan.now number 0 (is_input plan.now) bytes.now header.now) }
     ensures levels { IfOk result (HasLevels plan.now number) }
 {
     let mut grids = Vec::new(alloc);

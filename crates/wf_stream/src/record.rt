@@ -4,7 +4,8 @@ ghost use Rattle.std.specs.Prelude.{◌≡◌, ◌+◌, ◌∷◌, [], IfOk, IfS
 ghost use Rattle.wf_io.specs.Files.{is_store_name};
 ghost use Rattle.wf_model.specs.Bytes.{char_bytes};
 ghost use Rattle.wf_model.specs.Files.{append};
-ghost use Rattle.wf_stream.specs.StoreWrites.{HasRoom, Wrote, appends, part_of, record_parts, with_bytes, with_parts};
+ghost use Rattle.wf_stream.specs.StoreWrites.{HasRoom, Wrote, appends, part_of, record_parts};
+ghost use Rattle.wf_stream.specs.StoreWrites.{with_bytes, with_parts};
 
 use crate::store_calls::append;
 use crate::writer::{StreamError, Totals};
@@ -53,7 +54,8 @@ fn append_counted<S: Store>(
 ) -> Result<Totals, StreamError>
     requires name { IsTrue (is_store_name name.now) }
     requires room { HasRoom name.now (S.files store.old) }
-    ensures wrote { Wrote (append name.now bytes.now ∷ []) name.now (S.files store.old) (S.files store.new) (S.faults store.old) (S.faults store.new) (S.failed store.new) result }
+    ensures wrote { Wrote (append name.now bytes.now ∷ []) name.now (S.files store.old)
+        (S.files store.new) (S.faults store.old) (S.faults store.new) (S.failed store.new) result }
     ensures room { OnOk result (HasRoom name.now (S.files store.new)) }
     ensures totals { IfOk result (λ t. t ≡ with_bytes totals bytes.now) }
 {
@@ -78,7 +80,9 @@ fn append_time<S: Store>(
 ) -> Result<Totals, StreamError>
     requires name { IsTrue (is_store_name name.now) }
     requires room { HasRoom name.now (S.files store.old) }
-    ensures wrote { Wrote (append name.now (char_bytes is_padded time.now) ∷ []) name.now (S.files store.old) (S.files store.new) (S.faults store.old) (S.faults store.new) (S.failed store.new) result }
+    ensures wrote { Wrote (append name.now (char_bytes is_padded time.now) ∷ []) name.now
+        (S.files store.old) (S.files store.new) (S.faults store.old) (S.faults store.new)
+        (S.failed store.new) result }
     ensures room { OnOk result (HasRoom name.now (S.files store.new)) }
     ensures totals { IfOk result (λ t. t ≡ with_bytes totals (char_bytes is_padded time.now)) }
 {
@@ -98,7 +102,9 @@ fn append_slab<S: Store, N: RunName>(
 ) -> Result<Totals, StreamError>
     requires name { IsTrue (is_store_name name.now) }
     requires room { HasRoom name.now (S.files store.old) }
-    ensures wrote { Wrote (append name.now (part_of N.run N.layout slab.now) ∷ []) name.now (S.files store.old) (S.files store.new) (S.faults store.old) (S.faults store.new) (S.failed store.new) result }
+    ensures wrote { Wrote (append name.now (part_of N.run N.layout slab.now) ∷ []) name.now
+        (S.files store.old) (S.files store.new) (S.faults store.old) (S.faults store.new)
+        (S.failed store.new) result }
     ensures room { OnOk result (HasRoom name.now (S.files store.new)) }
     ensures totals { IfOk result (λ t. t ≡ with_bytes totals (part_of N.run N.layout slab.now)) }
 {
@@ -118,9 +124,12 @@ fn append_slabs<S: Store, N: RunName>(
 ) -> Result<Totals, StreamError>
     requires name { IsTrue (is_store_name name.now) }
     requires room { HasRoom name.now (S.files store.old) }
-    ensures wrote { Wrote (appends name.now (map (part_of N.run N.layout) slabs.now)) name.now (S.files store.old) (S.files store.new) (S.faults store.old) (S.faults store.new) (S.failed store.new) result }
+    ensures wrote { Wrote (appends name.now (map (part_of N.run N.layout) slabs.now)) name.now
+        (S.files store.old) (S.files store.new) (S.faults store.old) (S.faults store.new)
+        (S.failed store.new) result }
     ensures room { OnOk result (HasRoom name.now (S.files store.new)) }
-    ensures totals { IfOk result (λ t. t ≡ with_parts totals (map (part_of N.run N.layout) slabs.now)) }
+    ensures totals { IfOk result
+        (λ t. t ≡ with_parts totals (map (part_of N.run N.layout) slabs.now)) }
 {
     let mut counted = totals;
     for slab in slabs {
@@ -143,9 +152,12 @@ pub(crate) fn append_record<S: Store, N: RunName>(
 ) -> Result<Totals, StreamError>
     requires name { IsTrue (is_store_name name.now) }
     requires room { HasRoom name.now (S.files store.old) }
-    ensures wrote { Wrote (appends name.now (record_parts N.run N.layout time.now slabs.now)) name.now (S.files store.old) (S.files store.new) (S.faults store.old) (S.faults store.new) (S.failed store.new) result }
+    ensures wrote { Wrote (appends name.now (record_parts N.run N.layout time.now slabs.now))
+        name.now (S.files store.old) (S.files store.new) (S.faults store.old) (S.faults store.new)
+        (S.failed store.new) result }
     ensures room { OnOk result (HasRoom name.now (S.files store.new)) }
-    ensures totals { IfOk result (λ t. t ≡ with_parts totals (record_parts N.run N.layout time.now slabs.now)) }
+    ensures totals { IfOk result
+        (λ t. t ≡ with_parts totals (record_parts N.run N.layout time.now slabs.now)) }
 {
     match append_time(alloc, store, name, time, !slabs.is_empty(), totals) {
         Ok(counted) => append_slabs(alloc, store, name, slabs, counted),

@@ -2,7 +2,8 @@
 
 ghost use Rattle.std.specs.Prelude.{◌≡◌, ◌<◌, [], ◌∷◌, if◌then◌else◌, codes, length};
 ghost use Rattle.std.specs.Str.{bytes_eq};
-ghost use Rattle.wf_model.specs.InputOf.{all_slabs, asked, is_input, level_asked, slab_read, slabs_fault, time_read, times};
+ghost use Rattle.wf_model.specs.InputOf.{all_slabs, asked, is_input, level_asked, slab_read};
+ghost use Rattle.wf_model.specs.InputOf.{slabs_fault, time_read, times};
 ghost use Rattle.wf_model.specs.Reading.{fault_if, first_fault};
 ghost use Rattle.wf_model.specs.Sound.{IsDomain, IsLevel};
 ghost use Rattle.wf_model.specs.declared.plan_fault.InputKind.TheVariants as kind;
@@ -11,11 +12,8 @@ ghost use Rattle.wf_stream.specs.Slabs.{faults_of, slabs_up_to, with_slab};
 
 use crate::levels::{domain_of, field_of, lengths_of, shape_of};
 use wf_cdfread::find_slab;
+use wf_model::cdf_type::{CHAR, INT};
 use wf_model::{Domain, Field, Header, InputKind, Plan, SlabError};
-
-const CHAR: u8 = 2;
-
-const INT: u8 = 4;
 
 /// Which faults some variables have.
 #[derive(Clone, Copy, Debug, PartialEq, Eq)]
@@ -35,7 +33,8 @@ fn with_slab(
     kind: u8,
     shape: &[u32],
 ) -> SlabFaults
-    ensures { result ≡ with_slab faults (slab_read bytes.now header.now (asked name.now kind shape.now)) }
+    ensures { result
+        ≡ with_slab faults (slab_read bytes.now header.now (asked name.now kind shape.now)) }
 {
     match find_slab(bytes, header, name, kind, shape, 0) {
         Ok(_) => faults,
@@ -79,7 +78,8 @@ fn with_variable(
     bytes: &[u8],
     header: &Header,
 ) -> SlabFaults
-    ensures { result ≡ with_slab faults (slab_read bytes.now header.now (asked_in domain.now field.now)) }
+    ensures { result
+        ≡ with_slab faults (slab_read bytes.now header.now (asked_in domain.now field.now)) }
 {
     let lengths = lengths_of(domain, field);
     let shape = shape_of(domain, field, &lengths);
@@ -97,7 +97,8 @@ fn with_level(
 ) -> SlabFaults
     requires domain { IsDomain plan.now number }
     requires level { IsLevel plan.now level }
-    ensures { result ≡ (if is_input plan.now level then with_slab faults (slab_read bytes.now header.now (level_asked plan.now number 0 level)) else faults) }
+    ensures { result ≡ (if is_input plan.now level then with_slab faults
+        (slab_read bytes.now header.now (level_asked plan.now number 0 level)) else faults) }
 {
     let field = field_of(plan, level);
     if field.input {
@@ -110,7 +111,8 @@ fn with_level(
 /// The faults of `Times` and of the variables of all levels that an input file gives.
 fn all_faults(plan: &Plan, number: u32, bytes: &[u8], header: &Header) -> SlabFaults
     requires { IsDomain plan.now number }
-    ensures { result ≡ faults_of (slabs_up_to plan.now number (length plan.now.fields) bytes.now header.now) }
+    ensures { result
+        ≡ faults_of (slabs_up_to plan.now number (length plan.now.fields) bytes.now header.now) }
 {
     let mut faults = times_faults(bytes, header);
     for level in 0..plan.fields.as_slice().len() {
@@ -121,7 +123,9 @@ fn all_faults(plan: &Plan, number: u32, bytes: &[u8], header: &Header) -> SlabFa
 
 /// The first kind of these faults.
 fn first_kind(faults: SlabFaults, bytes: &[u8]) -> Option<InputKind>
-    ensures { result ≡ first_fault (fault_if faults.no_variable kind.NoVariable ∷ fault_if faults.wrong_type kind.WrongType ∷ fault_if faults.wrong_shape kind.WrongShape ∷ fault_if faults.truncated (kind.Truncated (length bytes.now)) ∷ []) }
+    ensures { result ≡ first_fault (fault_if faults.no_variable kind.NoVariable
+        ∷ fault_if faults.wrong_type kind.WrongType ∷ fault_if faults.wrong_shape kind.WrongShape
+        ∷ fault_if faults.truncated (kind.Truncated (length bytes.now)) ∷ []) }
 {
     if faults.no_variable {
         Some(InputKind::NoVariable)
@@ -146,7 +150,8 @@ pub(crate) fn slabs_fault(
     header: &Header,
 ) -> Option<InputKind>
     requires { IsDomain plan.now number }
-    ensures { result ≡ slabs_fault bytes.now (all_slabs plan.now number 0 (is_input plan.now) bytes.now header.now) }
+    ensures { result ≡ slabs_fault bytes.now
+        (all_slabs plan.now number 0 (is_input plan.now) bytes.now header.now) }
 {
     first_kind(all_faults(plan, number, bytes, header), bytes)
 }

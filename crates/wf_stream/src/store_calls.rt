@@ -34,7 +34,8 @@ fn stream_error(error: IoError) -> StreamError
 pub(crate) fn append<S: Store>(store: &mut S, name: &str, bytes: &[u8]) -> Result<(), StreamError>
     requires name { IsTrue (is_store_name name.now) }
     requires room { HasRoom name.now (S.files store.old) }
-    ensures wrote { Wrote (append name.now bytes.now ∷ []) name.now (S.files store.old) (S.files store.new) (S.faults store.old) (S.faults store.new) (S.failed store.new) result }
+    ensures wrote { Wrote (append name.now bytes.now ∷ []) name.now (S.files store.old)
+        (S.files store.new) (S.faults store.old) (S.faults store.new) (S.failed store.new) result }
     ensures room { OnOk result (HasRoom name.now (S.files store.new)) }
 {
     match store.append(name, bytes) {
@@ -51,7 +52,9 @@ pub(crate) fn make_file<S: Store>(
 ) -> Result<(), StreamError>
     requires name { IsTrue (is_store_name name.now) }
     requires header { 8 ≤ length header.now }
-    ensures wrote { Wrote (create name.now ∷ append name.now header.now ∷ []) name.now (S.files store.old) (S.files store.new) (S.faults store.old) (S.faults store.new) (S.failed store.new) result }
+    ensures wrote { Wrote (create name.now ∷ append name.now header.now ∷ []) name.now
+        (S.files store.old) (S.files store.new) (S.faults store.old) (S.faults store.new)
+        (S.failed store.new) result }
     ensures room { OnOk result (HasRoom name.now (S.files store.new)) }
 {
     match store.create(name) {
@@ -72,7 +75,8 @@ pub(crate) fn write_count<S: Store>(
 ) -> Result<(), StreamError>
     requires name { IsTrue (is_store_name name.now) }
     requires room { HasRoom name.now (S.files store.old) }
-    ensures { Wrote (write_at name.now 4 (four_bytes count) ∷ []) name.now (S.files store.old) (S.files store.new) (S.faults store.old) (S.faults store.new) (S.failed store.new) result }
+    ensures { Wrote (write_at name.now 4 (four_bytes count) ∷ []) name.now (S.files store.old)
+        (S.files store.new) (S.faults store.old) (S.faults store.new) (S.failed store.new) result }
 {
     match store.write_at(name, 4, &count.to_be_bytes()) {
         Ok(()) => Ok(()),

@@ -1,5 +1,6 @@
 -- The grammar of expressions in the parts that its reader takes.
-use Rattle.std.specs.Prelude.{ℕ, zero, suc, ◌+◌, ◌-◌, ◌<◌, ◌≤◌, ◌==◌, max, not, ◌&&◌, List, length, All, Option, Some, None, Result, Ok, Err, ℤ, if◌then◌else◌, codes}
+use Rattle.std.specs.Prelude.{ℕ, zero, suc, ◌+◌, ◌-◌, ◌<◌, ◌≤◌, ◌==◌, max, not, ◌&&◌, List, length}
+use Rattle.std.specs.Prelude.{All, Option, Some, None, Result, Ok, Err, ℤ, if◌then◌else◌, codes}
 use Rattle.std.specs.Option.{option_map}
 use Rattle.std.specs.Str.{bytes_eq}
 use Rattle.wf_model.specs.declared.expr.Test.{Test}
@@ -13,7 +14,8 @@ use Rattle.wf_model.specs.Reading.{◌>>=◌, or_fault}
 use Rattle.wf_model.specs.Letters.{Text}
 use Rattle.wf_model.specs.Tokens.{At, Reader, keyword, is_next, past, expect, name_next, signed}
 use Rattle.wf_model.specs.TableNames.{called_hook, level, most_dk}
-use Rattle.wf_model.specs.ExprText.{Tree, tree, node, operator, over, divided, test, all_arguments, deepest, arguments_tree, factor_with, factors_below}
+use Rattle.wf_model.specs.ExprText.{Tree, tree, node, operator, over, divided, test, all_arguments}
+use Rattle.wf_model.specs.ExprText.{deepest, arguments_tree, factor_with, factors_below}
 use Rattle.wf_table.specs.declared.place.Place.{Place}
 use Rattle.wf_table.specs.declared.tree.Binary.{Binary}
 use Rattle.wf_table.specs.declared.tree.Binary.TheVariants as binary
@@ -84,7 +86,8 @@ product_operator word =
 
 -- one operand more behind an operator
 unfoldable pub sum_turn : Reader Tree → ℕ → Binary → Tree → At → Result (Tree × At) TableKind
-sum_turn right room op left at = operator room left at >>= right >>= λ r. Ok (over (made op) left r.0, r.1)
+sum_turn right room op left at =
+    operator room left at >>= right >>= λ r. Ok (over (made op) left r.0, r.1)
 
 abbrev pub multiplied_by : Reader Tree → Tree → At → Result (Tree × At) TableKind
 multiplied_by right left at = right at >>= λ r. Ok (over (made binary.Multiply) left r.0, r.1)
@@ -102,12 +105,15 @@ abbrev pub Turns : Type 0
 Turns = Tree → At → Option (Result (Tree × At) TableKind)
 
 abbrev pub sum_turns : Reader Tree → ℕ → Turns
-sum_turns right room left at = option_map (λ op. sum_turn right room op left at) (sum_operator (keyword at))
+sum_turns right room left at =
+    option_map (λ op. sum_turn right room op left at) (sum_operator (keyword at))
 
 abbrev pub product_turns : Reader Tree → ℕ → Turns
-product_turns right room left at = option_map (λ op. product_turn right room op left at) (product_operator (keyword at))
+product_turns right room left at =
+    option_map (λ op. product_turn right room op left at) (product_operator (keyword at))
 
-abbrev pub go_on : Option (Result (Tree × At) TableKind) → (Tree × At → Result (Tree × At) TableKind) → Tree → At → Result (Tree × At) TableKind
+abbrev pub go_on : Option (Result (Tree × At) TableKind) →
+    (Tree × At → Result (Tree × At) TableKind) → Tree → At → Result (Tree × At) TableKind
 go_on None next left at = Ok (left, at)
 go_on (Some turn) next left at = turn >>= next
 
@@ -124,11 +130,13 @@ factor_at names room = factor_with names room (factors_below names room)
 
 -- a term
 unfoldable pub term_at : Names → ℕ → Reader Tree
-term_at names room at = factor_at names room at >>= λ first. chain (product_turns (factor_at names (room - 1)) room) (length at.tokens) first.0 first.1
+term_at names room at = factor_at names room at >>= λ first.
+    chain (product_turns (factor_at names (room - 1)) room) (length at.tokens) first.0 first.1
 
 -- an expression
 unfoldable pub expr_at : Names → ℕ → Reader Tree
-expr_at names room at = term_at names room at >>= λ first. chain (sum_turns (term_at names (room - 1)) room) (length at.tokens) first.0 first.1
+expr_at names room at = term_at names room at >>= λ first.
+    chain (sum_turns (term_at names (room - 1)) room) (length at.tokens) first.0 first.1
 
 -- ---- parts of a factor, each of which an expression reads
 
@@ -171,7 +179,8 @@ branches_of inside at =
     Ok ((c.0, d.0), d.1)
 
 abbrev pub chosen : Condition → Tree → Tree → Tree
-chosen x y z = tree (roll-Expr (e.If x.test (x.left).expr (x.right).expr y.expr z.expr)) (1 + max (max (x.left).depth (x.right).depth) (max y.depth z.depth))
+chosen x y z = tree (roll-Expr (e.If x.test (x.left).expr (x.right).expr y.expr z.expr))
+    (1 + max (max (x.left).depth (x.right).depth) (max y.depth z.depth))
 
 unfoldable pub choice_of : Reader Tree → Reader Tree
 choice_of inside at =
@@ -182,11 +191,13 @@ choice_of inside at =
 
 -- in parentheses, one deeper
 unfoldable pub parenthesis_of : Reader Tree → Reader Tree
-parenthesis_of inside at = inside_and (codes ")") inside (past at) >>= λ r. Ok (tree (r.0).expr (1 + (r.0).depth), r.1)
+parenthesis_of inside at =
+    inside_and (codes ")") inside (past at) >>= λ r. Ok (tree (r.0).expr (1 + (r.0).depth), r.1)
 
 -- `-` and a factor
 unfoldable pub negation_of : Reader Tree → Reader Tree
-negation_of factor at = node at >>= λ counted. factor (past counted) >>= λ r. Ok (tree (roll-Expr (e.Neg (r.0).expr)) (1 + (r.0).depth), r.1)
+negation_of factor at = node at >>= λ counted. factor (past counted) >>= λ r.
+    Ok (tree (roll-Expr (e.Neg (r.0).expr)) (1 + (r.0).depth), r.1)
 
 -- ---- calls
 
@@ -202,7 +213,8 @@ called_at names at =
 -- the call, whose arguments end in `)` and are as many as the function takes
 unfoldable pub call_of : HookName → List Tree → Reader Tree
 call_of h trees at =
-    (if is_next (codes ")") at && not (length trees == h.arity) then Err Arity else expect (codes ")") at) >>= λ end.
+    (if is_next (codes ")") at && not (length trees == h.arity) then Err Arity
+    else expect (codes ")") at) >>= λ end.
     Ok (tree (roll-Expr (e.Call h.id (arguments_tree trees))) (1 + deepest trees), end)
 
 unfoldable pub call_at : Names → Reader Tree → Reader Tree

@@ -31,7 +31,16 @@ extent_of at =
 
 -- the phase of these parts
 abbrev pub phase_made : Text × ℕ → Extent → Tree → Item
-phase_made t x tree = item.Phase (record { name = t.0; writes = t.1; mx = x.mx; my = x.my; from = x.from; to = x.to; extend = x.extend; expr = tree.expr })
+phase_made t x tree = item.Phase (record {
+  name = t.0;
+  writes = t.1;
+  mx = x.mx;
+  my = x.my;
+  from = x.from;
+  to = x.to;
+  extend = x.extend;
+  expr = tree.expr;
+})
 
 -- a phase
 unfoldable pub phase_at : Names → List Item → Reader Item

@@ -1,5 +1,6 @@
 -- The grammar of the table in the parts that its reader takes.
-use Rattle.std.specs.Prelude.{ℕ, List, [], length, nat_le, Option, Some, None, Result, Err, if◌then◌else◌}
+use Rattle.std.specs.Prelude.{ℕ, List, [], length, nat_le, Option, Some, None, Result, Err}
+use Rattle.std.specs.Prelude.{if◌then◌else◌}
 use Rattle.wf_model.specs.declared.text.Line.{Line}
 use Rattle.wf_model.specs.declared.plan.Item.{Item}
 use Rattle.wf_model.specs.declared.table.Names.{Names}
@@ -24,4 +25,5 @@ item_of_line names before l =
 
 -- the items of a text
 unfoldable pub items_of_text : List ℕ → Names → Result (List Item) TableFault
-items_of_text text names = items_from names [] (lines_read text).lines >>= unless_bad (lines_read text).fault
+items_of_text text names =
+    items_from names [] (lines_read text).lines >>= unless_bad (lines_read text).fault

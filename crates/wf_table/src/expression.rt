@@ -1,13 +1,16 @@
 //! Expressions, by recursive descent.
 //!
-//! `room` is how deep an expression may be where it stands, at most 64. A factor of several parts gives
-//! each of them one less; so does an operator to its right operand, and its left operand has to fit with
-//! the operator above it.
+//! `room` is how deep an expression may be where it stands, at most 64. A factor of several parts
+//! gives each of them one less; so does an operator to its right operand, and its left operand has
+//! to fit with the operator above it.
 
 ghost use Rattle.std.specs.Prelude.{◌<◌, ◌≤◌, ◌+◌, ◌-◌, IfOk, length, map};
 ghost use Rattle.wf_model.specs.ExprText.{all_arguments, arguments, whole_expr};
 ghost use Rattle.wf_model.specs.Reading.{Gives};
-ghost use Rattle.wf_table.specs.Expressions.{AllBelow, Within, asked, branches_of, call_at, choice_of, condition_of, expr_at, factor_at, inside_and, negation_of, pair_of, parenthesis_of, product_turn, seen, sum_turn, term_at, tree_of};
+ghost use Rattle.wf_table.specs.Expressions.{AllBelow, Within, asked, branches_of, call_at};
+ghost use Rattle.wf_table.specs.Expressions.{choice_of, condition_of, expr_at, factor_at};
+ghost use Rattle.wf_table.specs.Expressions.{inside_and, negation_of, pair_of, parenthesis_of};
+ghost use Rattle.wf_table.specs.Expressions.{product_turn, seen, sum_turn, term_at, tree_of};
 ghost use Rattle.wf_table.specs.Faults.{kind_of};
 ghost use Rattle.wf_table.specs.Place.{at_of};
 
@@ -21,10 +24,8 @@ use crate::tree::{
     Binary, Condition, Product, Tree, choice, deeper, negated, over, quotient, remainder,
 };
 use std::alloc::Global;
+use wf_model::limits::DEPTH;
 use wf_model::{Expr, Names, TableKind};
-
-/// So deep an expression may be.
-const MOST_DEPTH: u32 = 64;
 
 /// A factor.
 #[cycle(expression)]
@@ -68,7 +69,8 @@ fn parenthesis<'a>(
     at: Place<'a>,
 ) -> Result<(Tree, Place<'a>), LineError>
     requires { room < 64 }
-    ensures found { Gives seen kind_of result (parenthesis_of (expr_at names.now room) (at_of at.entry)) }
+    ensures found { Gives seen kind_of result
+        (parenthesis_of (expr_at names.now room) (at_of at.entry)) }
     ensures within { IfOk result (Within (room + 1) (length at.entry.tokens.now)) }
 {
     let (inner, end) = inside_and(alloc, names, room, b")", at.past())?;
@@ -85,7 +87,8 @@ fn negation<'a>(
     at: Place<'a>,
 ) -> Result<(Tree, Place<'a>), LineError>
     requires { room < 64 }
-    ensures found { Gives seen kind_of result (negation_of (factor_at names.now room) (at_of at.entry)) }
+    ensures found { Gives seen kind_of result
+        (negation_of (factor_at names.now room) (at_of at.entry)) }
     ensures within { IfOk result (Within (room + 1) (length at.entry.tokens.now)) }
 {
     let counted = at.node()?;
@@ -104,7 +107,8 @@ fn inside_and<'a>(
     at: Place<'a>,
 ) -> Result<(Tree, Place<'a>), LineError>
     requires { room < 64 }
-    ensures found { Gives seen kind_of result (inside_and word.now (expr_at names.now room) (at_of at.entry)) }
+    ensures found { Gives seen kind_of result
+        (inside_and word.now (expr_at names.now room) (at_of at.entry)) }
     ensures within { IfOk result (Within room (length at.entry.tokens.now)) }
 {
     let (tree, end) = expression(alloc, names, room, at)?;
@@ -122,7 +126,8 @@ fn pair<'a>(
     at: Place<'a>,
 ) -> Result<(Tree, Place<'a>), LineError>
     requires { room < 64 }
-    ensures found { Gives seen kind_of result (pair_of operator (expr_at names.now room) (at_of at.entry)) }
+    ensures found { Gives seen kind_of result
+        (pair_of operator (expr_at names.now room) (at_of at.entry)) }
     ensures within { IfOk result (Within (room + 1) (length at.entry.tokens.now)) }
 {
     let counted = at.node()?;
@@ -142,7 +147,8 @@ fn condition<'a>(
     at: Place<'a>,
 ) -> Result<(Condition, Place<'a>), LineError>
     requires { room < 64 }
-    ensures found { Gives (λ x. (asked x.0, at_of x.1)) kind_of result (condition_of (expr_at names.now room) (at_of at.entry)) }
+    ensures found { Gives (λ x. (asked x.0, at_of x.1)) kind_of result
+        (condition_of (expr_at names.now room) (at_of at.entry)) }
     ensures left { IfOk result (λ x. x.0.left.depth ≤ room) }
     ensures right { IfOk result (λ x. x.0.right.depth ≤ room) }
     ensures shorter { IfOk result (λ x. length x.1.tokens.now < length at.entry.tokens.now) }
@@ -163,7 +169,8 @@ fn branches<'a>(
     at: Place<'a>,
 ) -> Result<((Tree, Tree), Place<'a>), LineError>
     requires { room < 64 }
-    ensures found { Gives (λ x. ((tree_of (x.0).0, tree_of (x.0).1), at_of x.1)) kind_of result (branches_of (expr_at names.now room) (at_of at.entry)) }
+    ensures found { Gives (λ x. ((tree_of (x.0).0, tree_of (x.0).1), at_of x.1)) kind_of result
+        (branches_of (expr_at names.now room) (at_of at.entry)) }
     ensures yes { IfOk result (λ x. (x.0).0.depth ≤ room) }
     ensures no { IfOk result (λ x. (x.0).1.depth ≤ room) }
     ensures shorter { IfOk result (λ x. length x.1.tokens.now < length at.entry.tokens.now) }
@@ -183,7 +190,8 @@ fn if_then_else<'a>(
     at: Place<'a>,
 ) -> Result<(Tree, Place<'a>), LineError>
     requires { room < 64 }
-    ensures found { Gives seen kind_of result (choice_of (expr_at names.now room) (at_of at.entry)) }
+    ensures found { Gives seen kind_of result
+        (choice_of (expr_at names.now room) (at_of at.entry)) }
     ensures within { IfOk result (Within (room + 1) (length at.entry.tokens.now)) }
 {
     let counted = at.node()?;
@@ -202,7 +210,8 @@ fn arguments<'a>(
 ) -> Result<(Vec<Tree>, Place<'a>), LineError>
     requires room { room < 64 }
     requires token { 0 < length at.tokens.now }
-    ensures found { Gives (λ x. (map tree_of x.0.items, at_of x.1)) kind_of result (arguments (expr_at names.now room) (length (at_of at.entry).tokens) (at_of at.entry)) }
+    ensures found { Gives (λ x. (map tree_of x.0.items, at_of x.1)) kind_of result
+        (arguments (expr_at names.now room) (length (at_of at.entry).tokens) (at_of at.entry)) }
     ensures depth { IfOk result (λ x. AllBelow (room + 1) x.0.items) }
     ensures length { IfOk result (λ x. length x.1.tokens.now ≤ length at.entry.tokens.now) }
 {
@@ -228,7 +237,8 @@ fn all_arguments<'a>(
     at: Place<'a>,
 ) -> Result<(Vec<Tree>, Place<'a>), LineError>
     requires { room < 64 }
-    ensures found { Gives (λ x. (map tree_of x.0.items, at_of x.1)) kind_of result (all_arguments (expr_at names.now room) (at_of at.entry)) }
+    ensures found { Gives (λ x. (map tree_of x.0.items, at_of x.1)) kind_of result
+        (all_arguments (expr_at names.now room) (at_of at.entry)) }
     ensures depth { IfOk result (λ x. AllBelow (room + 1) x.0.items) }
     ensures length { IfOk result (λ x. length x.1.tokens.now ≤ length at.entry.tokens.now) }
 {
@@ -251,7 +261,8 @@ fn call<'a>(
     at: Place<'a>,
 ) -> Result<(Tree, Place<'a>), LineError>
     requires { room < 64 }
-    ensures found { Gives seen kind_of result (call_at names.now (expr_at names.now room) (at_of at.entry)) }
+    ensures found { Gives seen kind_of result
+        (call_at names.now (expr_at names.now room) (at_of at.entry)) }
     ensures within { IfOk result (Within (room + 1) (length at.entry.tokens.now)) }
 {
     let (hook, at) = called(names, at)?;
@@ -271,7 +282,8 @@ fn product<'a>(
     at: Place<'a>,
 ) -> Result<(Tree, Place<'a>), LineError>
     requires { room ≤ 64 }
-    ensures found { Gives seen kind_of result (product_turn (factor_at names.now (room - 1)) room sign (tree_of left) (at_of at.entry)) }
+    ensures found { Gives seen kind_of result
+        (product_turn (factor_at names.now (room - 1)) room sign (tree_of left) (at_of at.entry)) }
     ensures within { IfOk result (Within room (length at.entry.tokens.now)) }
 {
     let at = operator(room, &left, at)?;
@@ -324,7 +336,8 @@ fn sum<'a>(
     at: Place<'a>,
 ) -> Result<(Tree, Place<'a>), LineError>
     requires { room ≤ 64 }
-    ensures found { Gives seen kind_of result (sum_turn (term_at names.now (room - 1)) room sign (tree_of left) (at_of at.entry)) }
+    ensures found { Gives seen kind_of result
+        (sum_turn (term_at names.now (room - 1)) room sign (tree_of left) (at_of at.entry)) }
     ensures within { IfOk result (Within room (length at.entry.tokens.now)) }
 {
     let at = operator(room, &left, at)?;
@@ -362,5 +375,5 @@ pub(crate) fn whole_expression<'a>(
 ) -> Result<(Tree, Place<'a>), LineError>
     ensures found { Gives seen kind_of result (whole_expr names.now (at_of at.entry)) }
 {
-    expression(alloc, names, MOST_DEPTH, at)
+    expression(alloc, names, DEPTH, at)
 }

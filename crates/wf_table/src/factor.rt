@@ -5,7 +5,9 @@ ghost use Rattle.wf_model.specs.ExprText.{deepest, divisor, leaf, numeral, opera
 ghost use Rattle.wf_model.specs.Letters.{is_digits};
 ghost use Rattle.wf_model.specs.Reading.{Gives};
 ghost use Rattle.wf_model.specs.Tokens.{keyword, next};
-ghost use Rattle.wf_table.specs.Expressions.{AllBelow, Within, called_at, call_of, offset_and, offsets, product_operator, read_of, seen, sum_operator, tree_of};
+ghost use Rattle.wf_table.specs.Expressions.{AllBelow, Within, called_at, call_of, offset_and};
+ghost use Rattle.wf_table.specs.Expressions.{offsets, product_operator, read_of, seen};
+ghost use Rattle.wf_table.specs.Expressions.{sum_operator, tree_of};
 ghost use Rattle.wf_table.specs.Faults.{kind_of};
 ghost use Rattle.wf_table.specs.Place.{at_of};
 
@@ -14,13 +16,11 @@ use crate::names::{called_hook, level, most_dk};
 use crate::place::{Place, number_up_to};
 use crate::tree::{Binary, Product, Tree, call};
 use std::alloc::Global;
+use wf_model::limits::OFFSET;
 use wf_model::{Expr, HookName, Names, TableKind, Test};
 
 /// The greatest number that may stand in an expression.
 const GREATEST_NUMBER: u64 = 9_223_372_036_854_775_807;
-
-/// How far from its point a read may stand in i and j.
-const MOST_OFFSET: u64 = 6;
 
 /// An expression of one token.
 pub(crate) fn leaf<'a>(expr: Expr, at: Place<'a>) -> Result<(Tree, Place<'a>), LineError>
@@ -49,7 +49,8 @@ pub(crate) fn numeral<'a>(at: Place<'a>) -> Result<(Tree, Place<'a>), LineError>
 /// An offset, and the word behind it.
 fn offset_and<'a>(word: &[u8], most: u64, at: Place<'a>) -> Result<(i32, Place<'a>), LineError>
     requires { most < 128 }
-    ensures found { Gives (λ x. (x.0, at_of x.1)) kind_of result (offset_and word.now most (at_of at.entry)) }
+    ensures found { Gives (λ x. (x.0, at_of x.1)) kind_of result
+        (offset_and word.now most (at_of at.entry)) }
     ensures shorter { IfOk result (λ x. length x.1.tokens.now < length at.entry.tokens.now) }
 {
     let (offset, end) = at.signed(most)?;
@@ -60,13 +61,14 @@ fn offset_and<'a>(word: &[u8], most: u64, at: Place<'a>) -> Result<(i32, Place<'
 #[tactic(auto, unfolding(crate::specs::Expressions::offsets))]
 fn offsets<'a>(most_dk: u64, at: Place<'a>) -> Result<((i32, i32, i32), Place<'a>), LineError>
     requires { most_dk < 128 }
-    ensures found { Gives (λ x. (x.0, at_of x.1)) kind_of result (offsets most_dk (at_of at.entry)) }
+    ensures found { Gives (λ x. (x.0, at_of x.1)) kind_of result
+        (offsets most_dk (at_of at.entry)) }
     ensures shorter { IfOk result (λ x. length x.1.tokens.now < length at.entry.tokens.now) }
 {
     let at = at.expect(b"[")?;
-    let (di, at) = offset_and(b",", MOST_OFFSET, at)?;
+    let (di, at) = offset_and(b",", OFFSET, at)?;
     let (dk, at) = offset_and(b",", most_dk, at)?;
-    let (dj, at) = offset_and(b"]", MOST_OFFSET, at)?;
+    let (dj, at) = offset_and(b"]", OFFSET, at)?;
     Ok(((di, dk, dj), at))
 }
 
@@ -166,7 +168,8 @@ pub(crate) fn called<'a, 'b>(
     names: &'b Names,
     at: Place<'a>,
 ) -> Result<(&'b HookName, Place<'a>), LineError>
-    ensures found { Gives (λ x. (x.0.now, at_of x.1)) kind_of result (called_at names.now (at_of at.entry)) }
+    ensures found { Gives (λ x. (x.0.now, at_of x.1)) kind_of result
+        (called_at names.now (at_of at.entry)) }
     ensures length { IfOk result (λ x. length x.1.tokens.now < length at.entry.tokens.now) }
 {
     let counted = at.node()?;
@@ -187,7 +190,8 @@ pub(crate) fn call_of<'a>(
     at: Place<'a>,
 ) -> Result<(Tree, Place<'a>), LineError>
     requires { AllBelow 64 trees.items }
-    ensures found { Gives seen kind_of result (call_of hook.now (map tree_of trees.items) (at_of at.entry)) }
+    ensures found { Gives seen kind_of result
+        (call_of hook.now (map tree_of trees.items) (at_of at.entry)) }
     ensures depth { IfOk result (λ x. x.0.depth ≡ 1 + deepest (map tree_of trees.items)) }
     ensures length { IfOk result (λ x. length x.1.tokens.now ≤ length at.entry.tokens.now) }
 {

@@ -4,7 +4,8 @@ ghost use Rattle.std.specs.Prelude.{◌≡◌, IfOk};
 ghost use Rattle.std.specs.List.{list_any};
 ghost use Rattle.wf_model.specs.Letters.{is_among, lower};
 ghost use Rattle.wf_model.specs.Reading.{Gives};
-ghost use Rattle.wf_model.specs.Table.{exchange, extend, item_of_text, item_reader, levels, margins, phase_name, phase_names, swap, taken_phases};
+ghost use Rattle.wf_model.specs.Table.{exchange, extend, item_of_text, item_reader, levels};
+ghost use Rattle.wf_model.specs.Table.{margins, phase_name, phase_names, swap, taken_phases};
 ghost use Rattle.wf_model.specs.declared.plan.Item.TheVariants as items;
 ghost use Rattle.wf_table.specs.Faults.{kind_of};
 ghost use Rattle.wf_table.specs.Items.{extent_of, is_named, phase_at, target_of};
@@ -16,6 +17,7 @@ use crate::names::{entry_named, field_name, field_named, level};
 use crate::place::{Place, is_word};
 use crate::tokens::tokens_of;
 use std::alloc::{AllocError, Global};
+use wf_model::limits::EXTEND;
 use wf_model::{Item, List, Name, Names, Phase, TableKind};
 use wf_text::lower;
 
@@ -25,9 +27,6 @@ const MOST_MARGIN: u64 = 1_000_000;
 /// The greatest level.
 const MOST_LEVEL: u64 = 128;
 
-/// The greatest extend.
-const MOST_EXTEND: u64 = 6;
-
 fn copied<T: Copy>(alloc: Global, parts: &[T]) -> Result<List<T>, AllocError>
     ensures { IfOk result (λ l. l ≡ parts.now) }
 {
@@ -36,7 +35,8 @@ fn copied<T: Copy>(alloc: Global, parts: &[T]) -> Result<List<T>, AllocError>
 
 /// `halo` and its name.
 fn halo<'a>(alloc: Global, names: &Names, at: Place<'a>) -> Result<(Item, Place<'a>), LineError>
-    ensures { Gives (λ x. (x.0, at_of x.1)) kind_of result (exchange names.now.halos items.Halo (at_of at.entry)) }
+    ensures { Gives (λ x. (x.0, at_of x.1)) kind_of result
+        (exchange names.now.halos items.Halo (at_of at.entry)) }
 {
     let at = at.past();
     let name = at.name()?;
@@ -51,7 +51,8 @@ fn halo<'a>(alloc: Global, names: &Names, at: Place<'a>) -> Result<(Item, Place<
 
 /// `period` and its name.
 fn period<'a>(alloc: Global, names: &Names, at: Place<'a>) -> Result<(Item, Place<'a>), LineError>
-    ensures { Gives (λ x. (x.0, at_of x.1)) kind_of result (exchange names.now.periods items.Period (at_of at.entry)) }
+    ensures { Gives (λ x. (x.0, at_of x.1)) kind_of result
+        (exchange names.now.periods items.Period (at_of at.entry)) }
 {
     let at = at.past();
     let name = at.name()?;
@@ -121,7 +122,8 @@ fn phase_name<'a>(
     before: &[Item],
     at: Place<'a>,
 ) -> Result<(Name, Place<'a>), LineError>
-    ensures { Gives (λ x. (x.0, at_of x.1)) kind_of result (phase_name before.now (at_of at.entry)) }
+    ensures { Gives (λ x. (x.0, at_of x.1)) kind_of result
+        (phase_name before.now (at_of at.entry)) }
 {
     let word = at.name()?;
     if is_taken(word) {
@@ -142,7 +144,8 @@ fn target<'a>(
     before: &[Item],
     at: Place<'a>,
 ) -> Result<((Name, u32), Place<'a>), LineError>
-    ensures { Gives (λ x. (x.0, at_of x.1)) kind_of result (target_of names.now before.now (at_of at.entry)) }
+    ensures { Gives (λ x. (x.0, at_of x.1)) kind_of result
+        (target_of names.now before.now (at_of at.entry)) }
 {
     let (name, at) = phase_name(alloc, before, at)?;
     let at = at.expect(b"writes")?;
@@ -191,7 +194,7 @@ fn extend<'a>(at: Place<'a>) -> Result<(u32, Place<'a>), LineError>
     if !at.is_next(b"extend") {
         return Ok((0, at));
     }
-    let (extend, end) = at.past().number(0, MOST_EXTEND)?;
+    let (extend, end) = at.past().number(0, EXTEND)?;
     Ok((extend as u32, end))
 }
 
@@ -222,7 +225,8 @@ fn phase<'a>(
     before: &[Item],
     at: Place<'a>,
 ) -> Result<(Item, Place<'a>), LineError>
-    ensures { Gives (λ x. (x.0, at_of x.1)) kind_of result (phase_at names.now before.now (at_of at.entry)) }
+    ensures { Gives (λ x. (x.0, at_of x.1)) kind_of result
+        (phase_at names.now before.now (at_of at.entry)) }
 {
     let ((name, writes), at) = target(alloc, names, before, at.past())?;
     let (extent, at) = phase_extent(at)?;
@@ -247,7 +251,8 @@ fn item<'a>(
     before: &[Item],
     at: Place<'a>,
 ) -> Result<(Item, Place<'a>), LineError>
-    ensures { Gives (λ x. (x.0, at_of x.1)) kind_of result (item_reader names.now before.now (at_of at.entry)) }
+    ensures { Gives (λ x. (x.0, at_of x.1)) kind_of result
+        (item_reader names.now before.now (at_of at.entry)) }
 {
     if at.is_next(b"halo") {
         return halo(alloc, names, at);

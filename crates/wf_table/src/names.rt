@@ -5,7 +5,8 @@ ghost use Rattle.std.specs.Option.{option_copied};
 ghost use Rattle.wf_model.specs.Letters.{is_among, lower};
 ghost use Rattle.wf_model.specs.Reading.{Gives};
 ghost use Rattle.wf_model.specs.Table.{entry_named, field_named};
-ghost use Rattle.wf_model.specs.TableNames.{called_hook, field_name, is_called, is_level, level, most_dk, reserved};
+ghost use Rattle.wf_model.specs.TableNames.{called_hook, field_name, is_called, is_level, level};
+ghost use Rattle.wf_model.specs.TableNames.{most_dk, reserved};
 ghost use Rattle.wf_table.specs.Faults.{kind_of};
 ghost use Rattle.wf_table.specs.Place.{at_of};
 
@@ -53,7 +54,8 @@ fn level_named(levels: &[(Name, bool)], word: &[u8]) -> Option<usize>
 
 /// The number of the level that the next token names.
 pub(crate) fn level<'a>(names: &Names, at: Place<'a>) -> Result<(u32, Place<'a>), LineError>
-    ensures level { Gives (λ x. (x.0, at_of x.1)) kind_of result (level names.now (at_of at.entry)) }
+    ensures level { Gives (λ x. (x.0, at_of x.1)) kind_of result
+        (level names.now (at_of at.entry)) }
     ensures length { IfOk result (λ x. length x.1.tokens.now < length at.entry.tokens.now) }
 {
     let name = field_name(at)?;

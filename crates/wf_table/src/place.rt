@@ -6,17 +6,16 @@ ghost use Rattle.std.specs.Str.{bytes_eq};
 ghost use Rattle.wf_model.specs.Letters.{lower, is_digits, digits_value};
 ghost use Rattle.wf_model.specs.ExprText.{node};
 ghost use Rattle.wf_model.specs.Reading.{Gives};
-ghost use Rattle.wf_model.specs.Tokens.{expect, first_token, is_next, name_next, next, number, past, signed};
+ghost use Rattle.wf_model.specs.Tokens.{expect, first_token, is_next, name_next, next, number};
+ghost use Rattle.wf_model.specs.Tokens.{past, signed};
 ghost use Rattle.wf_model.specs.declared.table.TableKind.TheVariants.{Syntax};
 ghost use Rattle.wf_table.specs.Faults.{kind_of};
 ghost use Rattle.wf_table.specs.Place.{at_of};
 
 use crate::error::LineError;
+use wf_model::limits::NODES;
 use wf_model::{Name, TableKind};
 use wf_text::digits_up_to;
-
-/// So many nodes an expression may have.
-const MOST_NODES: u32 = 1024;
 
 /// A token, whose text is a part of its line's, and the column of its first byte, from 1.
 ///
@@ -125,7 +124,7 @@ impl<'a> Place<'a> {
         ensures place { Gives at_of kind_of result (node (at_of self.entry)) }
         ensures length { IfOk result (λ p. length p.tokens.now ≡ length self.entry.tokens.now) }
     {
-        if self.nodes < MOST_NODES {
+        if self.nodes < NODES {
             let tokens = self.tokens;
             let nodes = self.nodes + 1;
             Ok(Place { tokens, nodes })
@@ -150,7 +149,8 @@ impl<'a> Place<'a> {
 
     /// A number of decimal digits within a range.
     pub(crate) fn number(self, low: u64, high: u64) -> Result<(u64, Place<'a>), LineError>
-        ensures number { Gives (λ x. (x.0, at_of x.1)) kind_of result (number low high (at_of self.entry)) }
+        ensures number { Gives (λ x. (x.0, at_of x.1)) kind_of result
+            (number low high (at_of self.entry)) }
         ensures within { IfOk result (λ x. x.0 ≤ high) }
         ensures length { IfOk result (λ x. length x.1.tokens.now < length self.entry.tokens.now) }
     {
@@ -163,7 +163,8 @@ impl<'a> Place<'a> {
     /// A number up to `most`, with `-` or without.
     pub(crate) fn signed(self, most: u64) -> Result<(i32, Place<'a>), LineError>
         requires { most < 128 }
-        ensures number { Gives (λ x. (x.0, at_of x.1)) kind_of result (signed most (at_of self.entry)) }
+        ensures number { Gives (λ x. (x.0, at_of x.1)) kind_of result
+            (signed most (at_of self.entry)) }
         ensures length { IfOk result (λ x. length x.1.tokens.now < length self.entry.tokens.now) }
     {
         if self.is_next(b"-") {
@@ -178,7 +179,8 @@ impl<'a> Place<'a> {
 
 /// The number of decimal digits, at most `most`.
 pub(crate) fn number_up_to(word: &[u8], most: u64) -> Option<u64>
-    ensures { result ≡ then_some (is_digits word.now && nat_le (digits_value word.now) most) (digits_value word.now) }
+    ensures { result ≡ then_some (is_digits word.now && nat_le (digits_value word.now) most)
+        (digits_value word.now) }
 {
     match digits_up_to(word, u128::from(most)) {
         Some(number) => u64::try_from(number).ok(),

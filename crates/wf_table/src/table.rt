@@ -12,11 +12,9 @@ use crate::item::item_of_text;
 use crate::tokens::joined_text;
 use std::alloc::Global;
 use std::str::from_utf8;
+use wf_model::limits::TABLE_ITEMS;
 use wf_model::{Item, Line, List, Names, TableFault, TableKind, TextFault};
 use wf_text::read_until_fault;
-
-/// So many items a table may have.
-const MOST_ITEMS: usize = 256;
 
 /// What an error in this line tells.
 fn in_line(line: u32, error: LineError) -> TableError
@@ -38,7 +36,7 @@ fn item_of_line(
 ) -> Result<Item, TableError>
     ensures { Gives (λ r. r) fault_of result (item_of_line names.now before.now line.now) }
 {
-    if before.len() >= MOST_ITEMS {
+    if before.len() >= TABLE_ITEMS {
         let line = line.number;
         let kind = TableKind::TooLong;
         return Err(TableError::Fault(TableFault { line, kind }));
@@ -92,17 +90,18 @@ fn items_of_text(alloc: Global, text: &str, names: &Names) -> Result<Vec<Item>, 
 /// The items of a stencil table, in order, or its first refusal from left to right.
 ///
 /// Each logical line holds one item: `halo NAME`, `period NAME`, `swap FIELD`, or
-/// `phase NAME writes LEVEL [margin X Y] [levels FROM TO] [extend N] = EXPRESSION`. An expression has
-/// whole numbers, `i`, `j`, `k`, `step`, reads `LEVEL[di,dk,dj]`, `(..)`, `-`, `*`, `div` and `mod` by a
-/// number, `+` and `-`, `min(a, b)`, `max(a, b)`, `if a < b then c else d` (also with `<=` and `=`), and
-/// `call FUNCTION(a, ..)`; operators group from the left. Keywords and names ignore case. Lines are those
-/// of `wf_text::read_until_fault`; a fault of the text comes after the refusals of the lines before it.
+/// `phase NAME writes LEVEL [margin X Y] [levels FROM TO] [extend N] = EXPRESSION`. An expression
+/// has whole numbers, `i`, `j`, `k`, `step`, reads `LEVEL[di,dk,dj]`, `(..)`, `-`, `*`, `div` and
+/// `mod` by a number, `+` and `-`, `min(a, b)`, `max(a, b)`, `if a < b then c else d` (also with
+/// `<=` and `=`), and `call FUNCTION(a, ..)`; operators group from the left. Keywords and names
+/// ignore case. Lines are those of `wf_text::read_until_fault`; a fault of the text comes after the
+/// refusals of the lines before it.
 ///
-/// At most 256 items, and 1,024 nodes and a depth of 64 in an expression; parentheses and operators each
-/// add one to the depth. Offsets are at most 6 in i and j, and 127 in k, or 0 at a level without a z letter.
-/// `Syntax` has the column, from 1, of the first token that can't stand there, in the line's words joined
-/// by blanks. The language and its limits are this project's own. It fails with `Memory` too where a line, a
-/// column or a level has no number of 32 bits.
+/// At most 256 items, and 1,024 nodes and a depth of 64 in an expression; parentheses and operators
+/// each add one to the depth. Offsets are at most 6 in i and j, and 127 in k, or 0 at a level
+/// without a z letter. `Syntax` has the column, from 1, of the first token that can't stand there,
+/// in the line's words joined by blanks. The language and its limits are this project's own. It
+/// fails with `Memory` too where a line, a column or a level has no number of 32 bits.
 #[tactic(auto, using(crate::proofs::TextOf::table_of_text, crate::proofs::TextOf::table_of_no_text))]
 pub fn read_table(alloc: Global, text: &[u8], names: &Names) -> Result<List<Item>, TableError>
     ensures { Gives (λ r. r) fault_of result (table_of text.now names.now) }

@@ -176,7 +176,8 @@ fn arguments_list(alloc: Global, mut trees: Vec<Tree>) -> Result<Args, AllocErro
 /// The call of a stored function.
 pub(crate) fn call(alloc: Global, id: u32, trees: Vec<Tree>) -> Result<Tree, AllocError>
     requires { AllBelow 64 trees.items }
-    ensures tree { IfOk result (λ t. tree_of t ≡ tree (roll-Expr (e.Call id (arguments_tree (map tree_of trees.items)))) (1 + deepest (map tree_of trees.items))) }
+    ensures tree { IfOk result (λ t. tree_of t ≡ tree (roll-Expr (e.Call id
+        (arguments_tree (map tree_of trees.items)))) (1 + deepest (map tree_of trees.items))) }
     ensures depth { IfOk result (λ t. t.depth ≡ 1 + deepest (map tree_of trees.items)) }
 {
     let depth = deepest(&trees) + 1;

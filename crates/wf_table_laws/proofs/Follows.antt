@@ -17,7 +17,8 @@ use Rattle.wf_model.specs.Reads.{Read, reads_of}
 use Rattle.wf_model.specs.ExprFacts.{CallOf, parts_of, IsNearRead, IsRangedExpr}
 use Rattle.wf_model.specs.Ranges.{Within, IsRangedItem, IsRangedPhase}
 use Rattle.wf_model.specs.Sound.{CallsHooks}
-use Rattle.wf_table_laws.specs.Premises.{HasRangedParts, HasKnownLevels, HasRangedArity, IsRangedHaloPart, IsRangedPeriodPart}
+use Rattle.wf_model.specs.Hooks.{HasFewArguments}
+use Rattle.wf_table_laws.specs.Premises.{HasRangedParts, HasKnownLevels, IsRangedHaloPart, IsRangedPeriodPart}
 use Rattle.wf_table_laws.specs.ItemLaws.{IsKnownRead, HasNarrowCrosses, IsOfNames, UsesLevels, CallsNothing, ItemsKeep, Anything, ItemsAreRanged, CrossesAreNarrow, ItemsAreFew, PhaseNamesDiffer, ItemsAreOfNames, ItemsUseLevels, IsSoundExchange, ExchangesAreSound, CallsAreHooks, NothingIsCalled}
 use Rattle.wf_table_laws.proofs.Keeping.{Keeps, IsCallOf, IsReadOf}
 use Rattle.wf_table_laws.proofs.Items.{IsItemOf, IsPhaseOf}
@@ -35,7 +36,7 @@ phase_keeps names before ph is = subst (Keeps names) is.tree.4 is.tree.3.keeps
 
 small_call : (names : Names) (c : CallOf) → HasRangedParts names → IsCallOf names c → c.arguments ≤ 8
 small_call names c ranged is =
-    any_of HasRangedArity (λ h. (HookName.id h ≡ c.id) × (HookName.kind h ≡ Call) × (HookName.arity h ≡ c.arguments)) names.hooks (c.arguments ≤ 8) ranged.hooks is
+    any_of HasFewArguments (λ h. (HookName.id h ≡ c.id) × (HookName.kind h ≡ Call) × (HookName.arity h ≡ c.arguments)) names.hooks (c.arguments ≤ 8) ranged.hooks is
     (λ h small same. subst (λ n. n ≤ 8) same.2 (small same.1))
 
 ranged_phase : (names : Names) (before : List Item) (ph : Phase) → HasRangedParts names → IsPhaseOf names before ph → IsRangedPhase ph

@@ -1,5 +1,6 @@
 -- What holds of the items of a table that was read.
-use Rattle.std.specs.Prelude.{◌≡◌, ℕ, ◌<◌, ◌≤◌, true, List, [], length, All, Any, AllPairs, Ok, IsFalse, unsigned_abs}
+use Rattle.std.specs.Prelude.{◌≡◌, ℕ, ◌<◌, ◌≤◌, true, List, [], length, All, Any, AllPairs, Ok}
+use Rattle.std.specs.Prelude.{IsFalse, unsigned_abs}
 use Rattle.wf_model.specs.declared.plan.HaloPart.{HaloPart}
 use Rattle.wf_model.specs.declared.plan.PeriodPart.{PeriodPart}
 use Rattle.wf_model.specs.declared.plan.Item.{Item}
@@ -17,7 +18,8 @@ use Rattle.wf_table_laws.specs.Premises.{HasRangedParts, HasKnownLevels}
 
 -- the items of a table that was read keep this, for names that keep that
 abbrev pub ItemsKeep : (Names → Type 0) → (Names → List Item → Type 0) → Type 0
-ItemsKeep Premise Keeps = (text : List ℕ) (names : Names) (items : List Item) → Premise names → table_of text names ≡ Ok items → Keeps names items
+ItemsKeep Premise Keeps = (text : List ℕ) (names : Names) (items : List Item) → Premise names →
+    table_of text names ≡ Ok items → Keeps names items
 
 -- every names
 abbrev pub Anything : Names → Type 0
@@ -43,7 +45,8 @@ ItemsAreFew = ItemsKeep Anything (λ names items. length items ≤ 256)
 
 -- no two phases have one name, and none has a word of the script
 abbrev pub HasNamedPhases : List Item → Type 0
-HasNamedPhases items = AllPairs (λ (a b : Text). a ≡ b → ⊥) (phase_names items) × All (λ (name : Text). IsFalse (is_among name taken_phases)) (phase_names items)
+HasNamedPhases items = AllPairs (λ (a b : Text). a ≡ b → ⊥) (phase_names items)
+    × All (λ (name : Text). IsFalse (is_among name taken_phases)) (phase_names items)
 
 abbrev pub PhaseNamesDiffer : Type 0
 PhaseNamesDiffer = ItemsKeep Anything (λ names items. HasNamedPhases items)
@@ -54,17 +57,23 @@ MarginsAreSmall = (plan : Plan) → All IsRangedItem plan.items → margin_of pl
 
 -- ---- names
 
--- a read is of a level that there is, and goes no further in k than reads of it may: not at all without a z letter
+-- a read is of a level that there is, and goes no further in k than reads of it may: not at all
+-- without a z letter
 pub record IsKnownRead (names : Names) (r : Read) : Type 0 where
   pub level : r.field < length names.levels
   pub near : unsigned_abs r.dk ≤ most_dk names r.field
 
--- a halo's and a period's parts are those of a name, a swap exchanges the two levels of a field, and a phase writes and reads levels that there are
+-- a halo's and a period's parts are those of a name, a swap exchanges the two levels of a field,
+-- and a phase writes and reads levels that there are
 abbrev pub IsOfNames : Names → Item → Type 0
-IsOfNames names (item.Halo parts) = Any (λ (halo : Text × List HaloPart). halo.1 ≡ parts) names.halos
-IsOfNames names (item.Period parts) = Any (λ (period : Text × List PeriodPart). period.1 ≡ parts) names.periods
-IsOfNames names (item.Swap one two) = Any (λ (field : Text × ℕ × ℕ). (field.1 ≡ one) × (field.2 ≡ two)) names.fields × (one ≡ two → ⊥)
-IsOfNames names (item.Phase ph) = (ph.writes < length names.levels) × All (IsKnownRead names) (reads_of ph.expr)
+IsOfNames names (item.Halo parts) =
+    Any (λ (halo : Text × List HaloPart). halo.1 ≡ parts) names.halos
+IsOfNames names (item.Period parts) =
+    Any (λ (period : Text × List PeriodPart). period.1 ≡ parts) names.periods
+IsOfNames names (item.Swap one two) =
+    Any (λ (field : Text × ℕ × ℕ). (field.1 ≡ one) × (field.2 ≡ two)) names.fields × (one ≡ two → ⊥)
+IsOfNames names (item.Phase ph) =
+    (ph.writes < length names.levels) × All (IsKnownRead names) (reads_of ph.expr)
 
 abbrev pub ItemsAreOfNames : Type 0
 ItemsAreOfNames = ItemsKeep Anything (λ names items. All (IsOfNames names) items)
@@ -74,10 +83,12 @@ abbrev pub UsesLevels : ℕ → Item → Type 0
 UsesLevels count (item.Halo parts) = All (λ (p : HaloPart). p.field < count) parts
 UsesLevels count (item.Period parts) = All (λ (p : PeriodPart). p.field < count) parts
 UsesLevels count (item.Swap one two) = (one < count) × (two < count)
-UsesLevels count (item.Phase ph) = (ph.writes < count) × All (λ (r : Read). r.field < count) (reads_of ph.expr)
+UsesLevels count (item.Phase ph) =
+    (ph.writes < count) × All (λ (r : Read). r.field < count) (reads_of ph.expr)
 
 abbrev pub ItemsUseLevels : Type 0
-ItemsUseLevels = ItemsKeep HasKnownLevels (λ names items. All (UsesLevels (length names.levels)) items)
+ItemsUseLevels =
+    ItemsKeep HasKnownLevels (λ names items. All (UsesLevels (length names.levels)) items)
 
 -- ---- halos and periods of a plan
 
@@ -90,7 +101,8 @@ IsSoundExchange plan (item.Phase ph) = Unit {0}
 
 abbrev pub ExchangesAreSound : Type 0
 ExchangesAreSound =
-    (plan : Plan) (items : List Item) → All (UsesLevels (length plan.fields)) items → All IsRangedItem items → All HasNarrowCrosses items
+    (plan : Plan) (items : List Item) → All (UsesLevels (length plan.fields)) items
+    → All IsRangedItem items → All HasNarrowCrosses items
     → All (IsSoundExchange plan) items
 
 -- ---- calls

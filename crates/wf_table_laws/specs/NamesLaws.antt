@@ -18,8 +18,10 @@ use Rattle.wf_model.specs.declared.plan.Item.{Item}
 use Rattle.wf_model.specs.Ranges.{IsRangedItem}
 use Rattle.wf_model.specs.Sound.{CallsHooks}
 use Rattle.wf_model.specs.Table.{table_of}
-use Rattle.wf_table_laws.specs.ItemLaws.{HasNarrowCrosses, HasNamedPhases, IsOfNames, UsesLevels, CallsNothing}
-use Rattle.wf_table_laws.specs.Premises.{HasRangedArity, HasRangedParts, HasKnownLevels}
+use Rattle.wf_table_laws.specs.ItemLaws.{HasNarrowCrosses, HasNamedPhases, IsOfNames, UsesLevels}
+use Rattle.wf_table_laws.specs.ItemLaws.{CallsNothing}
+use Rattle.wf_model.specs.Hooks.{HasFewArguments}
+use Rattle.wf_table_laws.specs.Premises.{HasRangedParts, HasKnownLevels}
 
 -- the head of each group keeps its rule
 abbrev pub HeadsAreGood : (Text → Option RegistryKind) → Text → Type 0
@@ -31,17 +33,21 @@ HasGoodHeads (entry.Halo name groups) = HeadsAreGood points_head groups
 HasGoodHeads (entry.Period name groups) = HeadsAreGood width_head groups
 HasGoodHeads other = Unit {0}
 
--- of a config whose groups keep their rules, with calls of at most 8 arguments, the names' numbers are in range
+-- of a config whose groups keep their rules, with calls of at most 8 arguments, the names' numbers
+-- are in range
 abbrev pub NamesAreRanged : Type 0
 NamesAreRanged =
-    (config : Config) (hooks : List HookName) → All HasGoodHeads config.halos → All HasGoodHeads config.periods → All HasRangedArity hooks
+    (config : Config) (hooks : List HookName) → All HasGoodHeads config.halos
+    → All HasGoodHeads config.periods → All HasFewArguments hooks
     → HasRangedParts (names_of config hooks)
 
 -- so are those of a config of a Registry that was read
 abbrev pub BoundNamesAreRanged : Type 0
 BoundNamesAreRanged =
-    (files : List SourceFile) (defines : Defines) (registry : Registry) (namelist : Namelist) (config : Config) (hooks : List HookName)
-    → registry_of files defines ≡ Ok registry → config_of registry namelist ≡ Ok config → All HasRangedArity hooks → HasRangedParts (names_of config hooks)
+    (files : List SourceFile) (defines : Defines) (registry : Registry) (namelist : Namelist)
+    (config : Config) (hooks : List HookName)
+    → registry_of files defines ≡ Ok registry → config_of registry namelist ≡ Ok config
+    → All HasFewArguments hooks → HasRangedParts (names_of config hooks)
 
 -- of each config the names use levels that there are
 abbrev pub NamesUseLevels : Type 0
@@ -63,6 +69,8 @@ pub record AreItemsOf (config : Config) (hooks : List HookName) (items : List It
 -- the items of a table that uses the names of a config of a Registry that was read
 abbrev pub BoundTablesAreSound : Type 0
 BoundTablesAreSound =
-    (files : List SourceFile) (defines : Defines) (registry : Registry) (namelist : Namelist) (config : Config) (hooks : List HookName) (text : List ℕ) (items : List Item)
-    → registry_of files defines ≡ Ok registry → config_of registry namelist ≡ Ok config → All HasRangedArity hooks
+    (files : List SourceFile) (defines : Defines) (registry : Registry) (namelist : Namelist)
+    (config : Config) (hooks : List HookName) (text : List ℕ) (items : List Item)
+    → registry_of files defines ≡ Ok registry → config_of registry namelist ≡ Ok config
+    → All HasFewArguments hooks
     → table_of text (names_of config hooks) ≡ Ok items → AreItemsOf config hooks items

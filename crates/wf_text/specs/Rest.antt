@@ -4,10 +4,13 @@ use Rattle.wf_model.specs.declared.text.TextFault.{TextFault}
 use Rattle.wf_model.specs.declared.text.Line.{Line}
 use Rattle.wf_model.specs.Lines.{LinesRead, has_words, lines_from, physical}
 
--- the logical lines with words that stand in this text before its first fault, and that fault, where so many physical
--- lines stand before it
+-- the logical lines with words that stand in this text before its first fault, and that fault,
+-- where so many physical lines stand before it
 abbrev pub rest_read : ℕ → List ℕ → LinesRead
-rest_read before text = record { lines = filter has_words (lines_from (before + 1) (physical text)).lines; fault = (lines_from (before + 1) (physical text)).fault }
+rest_read before text = record {
+  lines = filter has_words (lines_from (before + 1) (physical text)).lines;
+  fault = (lines_from (before + 1) (physical text)).fault;
+}
 
 -- a line in front of those that follow it
 abbrev pub led : Line → LinesRead → LinesRead

@@ -8,7 +8,8 @@ use std::alloc::{AllocError, AllocFailed};
 use thiserror::Error;
 use wf_model::TextFault;
 
-/// Why a text has no lines: its first fault, at the physical line where it stands, or want of memory.
+/// Why a text has no lines: its first fault, at the physical line where it stands, or want
+/// of memory.
 #[derive(Debug, Drop, Error)]
 pub enum TextError {
     /// A `"` that begins a word and has no end on its line, and the column of that `"`.

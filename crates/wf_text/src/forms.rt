@@ -2,11 +2,16 @@
 //!
 //! Numbers and logicals are written as Fortran's namelists and WRF's Registry write them.
 
-ghost use Rattle.std.specs.Prelude.{◌≡◌, ◌≤◌, ◌+◌, ◌*◌, ◌-◌, ◌&&◌, IfOk, length, position, nat_le, pos, neg_ℤ, if◌then◌else◌};
+ghost use Rattle.std.specs.Prelude.{◌≡◌, ◌≤◌, ◌+◌, ◌*◌, ◌-◌, ◌&&◌, IfOk, length, position, nat_le};
+ghost use Rattle.std.specs.Prelude.{pos, neg_ℤ, if◌then◌else◌};
 ghost use Rattle.std.specs.Bool.{then_some};
 ghost use Rattle.std.specs.List.{position_or_len};
-ghost use Rattle.wf_model.specs.Letters.{lower, upper, is_digits, digits_value, is_number_within, is_dash};
-ghost use Rattle.wf_model.specs.ValueForms.{without_sign, has_minus, fits_bits, whole_value, is_whole_in, is_point, is_exponent_letter, all_digits, is_pointed, is_decimal_body, is_decimal, is_true_word, is_false_word};
+ghost use Rattle.wf_model.specs.Letters.{lower, upper, is_digits, digits_value, is_number_within};
+ghost use Rattle.wf_model.specs.Letters.{is_dash};
+ghost use Rattle.wf_model.specs.ValueForms.{without_sign, has_minus, fits_bits, whole_value};
+ghost use Rattle.wf_model.specs.ValueForms.{is_whole_in, is_point, is_exponent_letter, all_digits};
+ghost use Rattle.wf_model.specs.ValueForms.{is_pointed, is_decimal_body, is_decimal, is_true_word};
+ghost use Rattle.wf_model.specs.ValueForms.{is_false_word};
 
 use std::alloc::{AllocError, Global};
 
@@ -50,7 +55,8 @@ pub fn is_digits(word: &[u8]) -> bool
 
 /// One digit more behind a number, where it stays within `most`.
 fn with_digit(value: u128, digit: u8, most: u128) -> Option<u128>
-    ensures { result ≡ then_some (nat_le (value * 10 + (digit - 48)) most) (value * 10 + (digit - 48)) }
+    ensures { result
+        ≡ then_some (nat_le (value * 10 + (digit - 48)) most) (value * 10 + (digit - 48)) }
 {
     let digit = u128::from(digit.saturating_sub(b'0'));
     let value = value.checked_mul(10)?.checked_add(digit)?;
@@ -68,10 +74,11 @@ fn value_up_to(digits: &[u8], most: u128) -> Option<u128>
     Some(value)
 }
 
-/// The number of a word of decimal digits, leading zeros allowed; none where the word has another form or its number
-/// is above `most`.
+/// The number of a word of decimal digits, leading zeros allowed; none where the word has another
+/// form or its number is above `most`.
 pub fn digits_up_to(word: &[u8], most: u128) -> Option<u128>
-    ensures { result ≡ then_some (is_digits word.now && nat_le (digits_value word.now) most) (digits_value word.now) }
+    ensures { result ≡ then_some (is_digits word.now && nat_le (digits_value word.now) most)
+        (digits_value word.now) }
 {
     if is_digits(word) {
         value_up_to(word, most)
@@ -111,7 +118,8 @@ fn has_minus(word: &[u8]) -> bool
 
 /// The whole number of this size and sign, where 128 bits hold it.
 fn signed(minus: bool, size: u128) -> Option<i128>
-    ensures { result ≡ then_some (fits_bits 128 (if minus then neg_ℤ (pos size) else pos size)) (if minus then neg_ℤ (pos size) else pos size) }
+    ensures { result ≡ then_some (fits_bits 128 (if minus then neg_ℤ (pos size) else pos size))
+        (if minus then neg_ℤ (pos size) else pos size) }
 {
     if minus {
         0i128.checked_sub_unsigned(size)
@@ -120,8 +128,8 @@ fn signed(minus: bool, size: u128) -> Option<i128>
     }
 }
 
-/// The whole number of a word: decimal digits, with or without a sign. None where the word has another form or its
-/// number doesn't fit 128 bits.
+/// The whole number of a word: decimal digits, with or without a sign. None where the word has
+/// another form or its number doesn't fit 128 bits.
 pub fn whole(word: &[u8]) -> Option<i128>
     ensures { result ≡ then_some (is_whole_in 128 word.now) (whole_value word.now) }
 {
@@ -210,8 +218,9 @@ fn is_decimal_body(word: &[u8]) -> bool
     (is_pointed(front) || is_digits(front)) && is_digits(without_sign(exponent))
 }
 
-/// Whether the word is a decimal number: perhaps a sign, then digits with one point before, among or after them and
-/// perhaps an exponent, or digits and an exponent. An exponent is `e` or `d` in either case, perhaps a sign, and digits.
+/// Whether the word is a decimal number: perhaps a sign, then digits with one point before, among
+/// or after them and perhaps an exponent, or digits and an exponent. An exponent is `e` or `d` in
+/// either case, perhaps a sign, and digits.
 pub fn is_decimal(word: &[u8]) -> bool
     ensures { result ≡ is_decimal word.now }
 {

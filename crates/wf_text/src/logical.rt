@@ -1,7 +1,9 @@
 //! Logical lines: physical lines joined where one goes on.
 
-ghost use Rattle.std.specs.Prelude.{◌≡◌, ◌+◌, ◌++◌, ◌∷◌, ◌<◌, ◌≤◌, [], IfErr, IfNone, IfOk, IfSome, IsSome, None, OnOk, Some, drop, filter, length};
-ghost use Rattle.wf_model.specs.Lines.{goes_on, has_words, last_is, last_of, line, lines_of, lines_read, shortened, without_backslash};
+ghost use Rattle.std.specs.Prelude.{◌≡◌, ◌+◌, ◌++◌, ◌∷◌, ◌<◌, ◌≤◌, [], IfErr, IfNone, IfOk, IfSome};
+ghost use Rattle.std.specs.Prelude.{IsSome, None, OnOk, Some, drop, filter, length};
+ghost use Rattle.wf_model.specs.Lines.{goes_on, has_words, last_is, last_of, line, lines_of};
+ghost use Rattle.wf_model.specs.Lines.{lines_read, shortened, without_backslash};
 ghost use Rattle.wf_model.specs.Reading.{Gives};
 ghost use Rattle.wf_text.specs.Pending.{first_of, unfinished, words_so_far};
 ghost use Rattle.wf_text.specs.Rest.{StopsAt, led, no_lines, rest_read};
@@ -102,7 +104,8 @@ fn next_number(number: u32) -> Result<u32, AllocError>
 
 /// Adds the line, where it has words, with no more room than these take.
 fn push_line(done: &mut Vec<Line>, whole: Pending) -> Result<(), AllocError>
-    ensures { OnOk result (done.new.items ≡ done.old.items ++ filter has_words (line whole.number whole.words.items ∷ [])) }
+    ensures { OnOk result (done.new.items
+        ≡ done.old.items ++ filter has_words (line whole.number whole.words.items ∷ [])) }
 {
     if !whole.words.is_empty() {
         let number = whole.number;
@@ -129,7 +132,8 @@ fn stopped(lines: Vec<Line>, error: &TextError) -> Result<LinesRead, AllocError>
     }
 }
 
-/// The lines of a text that ends at the physical line with this number: a line that goes on there is a fault.
+/// The lines of a text that ends at the physical line with this number: a line that goes on there
+/// is a fault.
 fn finished(lines: Vec<Line>, pending: Option<Pending>, number: u32) -> LinesRead
     ensures lines { result.lines.items ≡ lines.items }
     ensures fault { result.fault ≡ unfinished pending number }
@@ -175,8 +179,8 @@ pub fn read_until_fault(alloc: Global, text: &str) -> Result<LinesRead, AllocErr
     Ok(finished(done, pending, number))
 }
 
-/// A logical line, the number of the physical line that it ends at, and how many bytes it takes with the lines without
-/// words before it.
+/// A logical line, the number of the physical line that it ends at, and how many bytes it takes
+/// with the lines without words before it.
 #[derive(Drop)]
 pub struct NextLine {
     pub line: Line,
@@ -184,7 +188,8 @@ pub struct NextLine {
     pub taken: usize,
 }
 
-/// That a text has no further line: a line that goes on where it ends, at the physical line with this number, is a fault.
+/// That a text has no further line: a line that goes on where it ends, at the physical line with
+/// this number, is a fault.
 fn no_more(pending: Option<Pending>, number: u32) -> Result<Option<NextLine>, TextError>
     ensures end { IfOk result (λ next. (next ≡ None) × (unfinished pending number ≡ None)) }
     ensures fault { IfErr result (λ e. fault_of e ≡ unfinished pending number) }
@@ -195,13 +200,16 @@ fn no_more(pending: Option<Pending>, number: u32) -> Result<Option<NextLine>, Te
     }
 }
 
-/// The first logical line of what follows so many physical lines of a text; none where no line follows.
+/// The first logical line of what follows so many physical lines of a text; none where no
+/// line follows.
 ///
-/// The lines of a text can be read by this one after the other, with no more memory than one of them takes. It fails at
-/// the first fault of the text if no whole line stands before it.
+/// The lines of a text can be read by this one after the other, with no more memory than one of
+/// them takes. It fails at the first fault of the text if no whole line stands before it.
 pub fn next_line(alloc: Global, text: &[u8], before: u32) -> Result<Option<NextLine>, TextError>
-    ensures line { IfOk result (λ next. IfSome next (λ n. rest_read before text.now ≡ led n.line (rest_read n.number (drop n.taken text.now)))) }
-    ensures bound { IfOk result (λ next. IfSome next (λ n. (0 < n.taken) × (n.taken ≤ length text.now))) }
+    ensures line { IfOk result (λ next. IfSome next (λ n.
+        rest_read before text.now ≡ led n.line (rest_read n.number (drop n.taken text.now)))) }
+    ensures bound { IfOk result
+        (λ next. IfSome next (λ n. (0 < n.taken) × (n.taken ≤ length text.now))) }
     ensures end { IfOk result (λ next. IfNone next (rest_read before text.now ≡ no_lines None)) }
     ensures fault { IfErr result (λ e. StopsAt (rest_read before text.now) (fault_of e)) }
 {

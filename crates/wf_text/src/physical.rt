@@ -1,13 +1,15 @@
 //! Physical lines: they end at a line feed, or where the text ends.
 
-ghost use Rattle.std.specs.Prelude.{◌≡◌, ◌≢◌, ◌+◌, ◌-◌, ◌<◌, ◌≤◌, ◌∷◌, ℕ, drop, length, MatchOption, slice_index};
+ghost use Rattle.std.specs.Prelude.{◌≡◌, ◌≢◌, ◌+◌, ◌-◌, ◌<◌, ◌≤◌, ◌∷◌, ℕ, drop, length};
+ghost use Rattle.std.specs.Prelude.{MatchOption, slice_index};
 ghost use Rattle.wf_model.specs.Lines.{physical};
 ghost use Rattle.wf_text.specs.Physical.{trimmed};
 
 /// The place of the first line feed, from 0.
 fn line_feed_at(text: &[u8]) -> Option<usize>
     ensures { MatchOption result ((j : ℕ) → j < length text.now → slice_index text.now j ≢ 10)
-        (λ k. (k < length text.now) × (slice_index text.now k ≡ 10) × ((j : ℕ) → j < k → slice_index text.now j ≢ 10)) }
+        (λ k. (k < length text.now) × (slice_index text.now k ≡ 10)
+        × ((j : ℕ) → j < k → slice_index text.now j ≢ 10)) }
 {
     text.iter().position(|b| *b == b'\n')
 }

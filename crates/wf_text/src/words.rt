@@ -1,7 +1,9 @@
 //! The words of a physical line, with their columns.
 
-ghost use Rattle.std.specs.Prelude.{◌≡◌, ◌+◌, ◌<◌, ◌≤◌, ◌^◌, IfOk, IfSome, length, position, unwrap_or};
-ghost use Rattle.wf_model.specs.Lines.{ends_word, is_blank, is_quote, quoted_word, word_at, words_from};
+ghost use Rattle.std.specs.Prelude.{◌≡◌, ◌+◌, ◌<◌, ◌≤◌, ◌^◌, IfOk, IfSome, length, position};
+ghost use Rattle.std.specs.Prelude.{unwrap_or};
+ghost use Rattle.wf_model.specs.Lines.{ends_word, is_blank, is_quote, quoted_word, word_at};
+ghost use Rattle.wf_model.specs.Lines.{words_from};
 ghost use Rattle.wf_model.specs.Reading.{Gives};
 ghost use Rattle.wf_text.specs.TextError.{fault_of};
 
@@ -9,7 +11,8 @@ use crate::error::TextError;
 use std::alloc::{AllocError, Global};
 use wf_model::{Bytes, Word};
 
-/// So many words a physical line of a Registry or namelist usually has at most: room for them is made at once.
+/// So many words a physical line of a Registry or namelist usually has at most: room for them is
+/// made at once.
 const USUAL_WORDS: usize = 16;
 
 fn is_blank(b: u8) -> bool
@@ -57,7 +60,8 @@ fn plain_len(bytes: &[u8]) -> usize
     }
 }
 
-/// The quoted word whose first `"` stands before these bytes, and how many bytes it takes with its quotes.
+/// The quoted word whose first `"` stands before these bytes, and how many bytes it takes with
+/// its quotes.
 fn quoted_word(
     alloc: Global,
     number: u32,
@@ -65,7 +69,8 @@ fn quoted_word(
     after: &[u8],
 ) -> Result<(Word, usize), TextError>
     requires { length after.now + 1 < 2 ^ 64 }
-    ensures word { Gives (λ x. x) fault_of result (quoted_word number column after.now (position is_quote after.now)) }
+    ensures word { Gives (λ x. x) fault_of result
+        (quoted_word number column after.now (position is_quote after.now)) }
     ensures bound { IfOk result (λ x. (0 < x.1) × (x.1 ≤ length after.now + 1)) }
 {
     match quote_at(after) {

@@ -5,10 +5,11 @@ use Rattle.std.proofs.lemmas.Bool.Decides.{nat_tests}
 use Rattle.wf_model.specs.Plans.{field_of, domain_of}
 use Rattle.wf_model.specs.Bytes.{header_bytes}
 use Rattle.wf_model.specs.Streams.{stream_levels}
-use Rattle.wf_model.specs.Headers.{file_header, dims_of, dim, text_att, int_att, times_var}
+use Rattle.wf_model.specs.Headers.{file_header, dims_of, dim, times_var}
 use Rattle.wf_model.specs.Sizes.{file_size, record_size, most_bytes, is_record_dim, dim_of}
 use Rattle.wf_model.specs.SoundHeader.{IsSoundDim, IsSoundAtt, IsSoundVar, IsSoundHeader}
 use Rattle.wf_model.specs.DemoCase.{demo_plan, case_start}
+use Rattle.wf_cdf.proofs.SoundParts.{text_sound, int_sound, dim_sound}
 use Rattle.wf_top.specs.DemoHeader.{demo_dims, demo_atts, field_atts, field_var, demo_vars, unplaced}
 
 levels_are : (nx ny steps : ℕ) → stream_levels (demo_plan nx ny steps) 0 ≡ 0 ∷ []
@@ -26,15 +27,6 @@ header_is nx ny steps =
     let x : nx ≡ nx + 1 - 1 + 0 = omega arith in
     let y : ny ≡ ny + 1 - 1 + 0 = omega arith in
     ap (λ n. unplaced n ny) x ∙ ap (λ n. unplaced (nx + 1 - 1 + 0) n) y
-
-text_sound : (name text : List ℕ) → length name < 2 ^ 31 → length text < 2 ^ 31 → IsSoundAtt (text_att name text)
-text_sound name text p q = record { name = p; kind = (omega arith, omega arith); count = q; bytes = omega arith }
-
-int_sound : (name : List ℕ) (n : ℕ) → length name < 2 ^ 31 → IsSoundAtt (int_att name n)
-int_sound name n p = record { name = p; kind = (omega arith, omega arith); count = lit< tt; bytes = refl }
-
-dim_sound : (name : List ℕ) (n : ℕ) → length name < 2 ^ 31 → n < 2 ^ 31 → IsSoundDim (dim name n)
-dim_sound name n p q = record { name = p; len = q }
 
 -- a length that is not zero is not the record's
 fixed_dim : (name : List ℕ) (n : ℕ) → 0 < n → is_record_dim (dim name n) ≡ false

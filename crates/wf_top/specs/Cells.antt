@@ -1,5 +1,6 @@
 -- Numbers in rows and columns, both counted from 0, row by row in one list.
-use Rattle.std.specs.Prelude.{ℕ, ◌+◌, ◌-◌, ◌*◌, ◌%◌, ◌<◌, ◌&&◌, Bool, nat_lt, List, ℤ, pos, unsigned_abs, if◌then◌else◌, slice_index_or}
+use Rattle.std.specs.Prelude.{ℕ, ◌+◌, ◌-◌, ◌*◌, ◌%◌, ◌<◌, ◌&&◌, Bool, nat_lt, List, ℤ, pos}
+use Rattle.std.specs.Prelude.{unsigned_abs, if◌then◌else◌, slice_index_or}
 use Rattle.wf_model.specs.Demo.{weighted}
 
 -- the number in row r and column c, where a row has w of them
@@ -12,7 +13,8 @@ size_at values w r c = unsigned_abs (cell values w r c)
 -- a cell with its four neighbours, weighted
 abbrev pub mean_at : List ℤ → ℕ → ℕ → ℕ → ℕ
 mean_at values w r c =
-    weighted (size_at values w r c) (size_at values w r (c - 1)) (size_at values w r (c + 1)) (size_at values w (r - 1) c) (size_at values w (r + 1) c)
+    weighted (size_at values w r c) (size_at values w r (c - 1)) (size_at values w r (c + 1))
+    (size_at values w (r - 1) c) (size_at values w (r + 1) c)
 
 -- none at the border of h rows and w columns
 abbrev pub is_within : ℕ → ℕ → ℕ → ℕ → Bool

@@ -1,5 +1,6 @@
 -- What `check` answers until the halo check is made of the plan, and how it ends.
-use Rattle.std.specs.Prelude.{◌≡◌, ◌⊎◌, ℕ, Bool, List, [], ◌∷◌, ◌++◌, flat_map, Option, Some, Result, codes}
+use Rattle.std.specs.Prelude.{◌≡◌, ◌⊎◌, ℕ, Bool, List, [], ◌∷◌, ◌++◌, flat_map, Option, Some}
+use Rattle.std.specs.Prelude.{Result, codes}
 use Rattle.wf_io.specs.Files.{Told}
 use Rattle.wf_model.specs.declared.config.Config.{Config}
 use Rattle.wf_model.specs.declared.table.HookName.{HookName}
@@ -20,22 +21,26 @@ use Rattle.wf_top.specs.Ends.{ReadFailed, memory_text}
 abbrev pub field_line : Text × Bool → Text
 field_line level = line (codes "field" ∷ level.0 ∷ [])
 
--- the active field levels in order, which are the same whatever functions are stored, and that all was read
+-- the active field levels in order, which are the same whatever functions are stored, and that all
+-- was read
 abbrev pub read_text : Config → Text
 read_text config = flat_map field_line (names_of config []).levels ++ line (codes "read" ∷ [])
 
 -- the answer to what was read: a refusal, or the text. It has no calls
 abbrev pub read_answer : Result Case Refusal → Answer
-read_answer read = after read λ case. record { status = 0; text = read_text case.config; calls = [] }
+read_answer read =
+    after read λ case. record { status = 0; text = read_text case.config; calls = [] }
 
 -- what `check` answers with these files, where these functions are stored
 abbrev pub check_answer : List HookName → Files → Defines → Answer
 check_answer hooks files defines = read_answer (case_read hooks files defines)
 
--- ---- how it ends: the files of the store stay. `Says status text` is `Said` of the sink and the status that came out
+-- ---- how it ends: the files of the store stay. `Says status text` is `Said` of the sink and the
+-- status that came out
 
 -- the answer was said. With files that the store tells it is theirs, and else that of some reading
-pub record CheckAnswered (hooks : List HookName) (defines : Defines) (old new : Option Files) (Says : ℕ → List ℕ → Type 0) : Type 0 where
+pub record CheckAnswered (hooks : List HookName) (defines : Defines) (old new : Option Files)
+    (Says : ℕ → List ℕ → Type 0) : Type 0 where
   pub read : Result Case Refusal
   pub is : (m : Files) → old ≡ Some m → read ≡ case_read hooks m defines
   pub files : Told old new (λ m n. n ≡ m)
@@ -46,6 +51,9 @@ pub record CheckLacked (old new : Option Files) (Says : ℕ → List ℕ → Typ
   pub files : Told old new (λ m n. n ≡ m)
   pub said : Says 10 memory_text
 
-abbrev pub CheckEnded : List HookName → Defines → Option Files → Option Files → ℕ → ℕ → List ℕ → (ℕ → List ℕ → Type 0) → Type 0
+abbrev pub CheckEnded : List HookName → Defines → Option Files → Option Files → ℕ → ℕ → List ℕ →
+    (ℕ → List ℕ → Type 0) → Type 0
 CheckEnded hooks defines old new before after failed Says =
-    CheckAnswered hooks defines old new Says ⊎ (ReadFailed (λ m. case_names m defines) old new before after failed Says ⊎ CheckLacked old new Says)
+    CheckAnswered hooks defines old new Says
+        ⊎ (ReadFailed (λ m. case_names m defines) old new before after failed Says
+        ⊎ CheckLacked old new Says)

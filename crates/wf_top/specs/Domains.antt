@@ -28,7 +28,8 @@ AllHold own west east all = Each (λ p patch. Holds all.ny own west east patch) 
 
 -- a patch holds the grid, its own columns after n steps, and those beside them after m
 abbrev pub HoldSteps : Patches → ℕ → ℕ → Patch → Type 0
-HoldSteps all n m patch = Holds all.ny (demo_value all.nx all.ny n) (demo_value all.nx all.ny m) (demo_value all.nx all.ny m) patch
+HoldSteps all n m patch = Holds all.ny (demo_value all.nx all.ny n) (demo_value all.nx all.ny m)
+    (demo_value all.nx all.ny m) patch
 
 -- so do all
 abbrev pub HoldGrid : ℕ → ℕ → Patches → Type 0

@@ -1,10 +1,11 @@
 -- What the memory of a patch holds of a grid.
-use Rattle.std.specs.Prelude.{◌≡◌, ◌≢◌, ℕ, ◌+◌, ◌-◌, ◌*◌, ◌/◌, ◌<◌, ◌≤◌, min, List, length, get_or, ℤ, pos}
+use Rattle.std.specs.Prelude.{◌≡◌, ◌≢◌, ℕ, ◌+◌, ◌-◌, ◌*◌, ◌/◌, ◌<◌, ◌≤◌, min, List, length, get_or}
+use Rattle.std.specs.Prelude.{ℤ, pos}
 use Rattle.wf_top.specs.declared.patch.Patch.{Patch}
 use Rattle.wf_top.specs.Cells.{cell}
 
--- a patch's own columns are those of the domain from `first` up to `end`, counted from 0, and its memory has one more at
--- each end where the domain has one
+-- a patch's own columns are those of the domain from `first` up to `end`, counted from 0, and its
+-- memory has one more at each end where the domain has one
 pub record IsBlock (nx first end : ℕ) (patch : Patch) : Type 0 where
   pub from : patch.from ≡ first - 1
   pub west : patch.from + patch.west ≡ first
@@ -18,10 +19,12 @@ pub record HasRows (ny : ℕ) (patch : Patch) : Type 0 where
   pub values : length patch.values.items ≡ ny * patch.width
   pub scratch : length patch.scratch.items ≡ ny * patch.width
 
--- the columns of the memory from a up to b hold the numbers that the grid has there, by row and column from 1
+-- the columns of the memory from a up to b hold the numbers that the grid has there, by row and
+-- column from 1
 abbrev pub Hold : (ℕ → ℕ → ℕ) → ℕ → Patch → ℕ → ℕ → Type 0
 Hold grid ny patch a b =
-    (r c : ℕ) → r < ny → a ≤ c → c < b → cell patch.values.items patch.width r c ≡ pos (grid (r + 1) (patch.from + c + 1))
+    (r c : ℕ) → r < ny → a ≤ c → c < b →
+    cell patch.values.items patch.width r c ≡ pos (grid (r + 1) (patch.from + c + 1))
 
 -- the own columns hold a grid
 abbrev pub Inside : (ℕ → ℕ → ℕ) → ℕ → Patch → Type 0
@@ -58,7 +61,8 @@ pub record KeepsShape (old new : Patch) : Type 0 where
 -- column c took these numbers, row by row, and the others are as before
 pub record Took (c rows : ℕ) (numbers : ℕ → ℤ) (old new : Patch) : Type 0 where
   pub taken : (r : ℕ) → r < rows → cell new.values.items old.width r c ≡ numbers r
-  pub others : (r q : ℕ) → r < rows → q < old.width → q ≢ c → cell new.values.items old.width r q ≡ cell old.values.items old.width r q
+  pub others : (r q : ℕ) → r < rows → q < old.width → q ≢ c →
+      cell new.values.items old.width r q ≡ cell old.values.items old.width r q
 
 -- the numbers of a column of a patch
 abbrev pub column_of : Patch → ℕ → ℕ → ℤ

@@ -10,4 +10,5 @@ pub record HasHeader (files : Option Files) : Type 0 where
 
 -- the calls that make the demo's file, with a frame at the start and after each step
 abbrev pub file_calls : ℕ → ℕ → ℕ → List StoreCall
-file_calls nx ny steps = create demo_file ∷ append demo_file (demo_header nx ny steps) ∷ demo_frames nx ny (steps + 1)
+file_calls nx ny steps =
+    create demo_file ∷ append demo_file (demo_header nx ny steps) ∷ demo_frames nx ny (steps + 1)

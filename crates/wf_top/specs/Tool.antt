@@ -11,12 +11,13 @@ use Rattle.wf_top.specs.Ends.{Ended}
 use Rattle.wf_top.specs.Checks.{CheckEnded}
 use Rattle.wf_top.specs.Plain.{PlainEnded}
 
--- of the store: its files and its count of faults, before and after, and the name of its last call where that call failed;
--- and what was said
+-- of the store: its files and its count of faults, before and after, and the name of its last call
+-- where that call failed; and what was said
 abbrev pub Ending : Type 1
 Ending = Option Files → Option Files → ℕ → ℕ → List ℕ → (ℕ → List ℕ → Type 0) → Type 0
 
--- by the words after a command: with the names that they define, or as words that are none of the command
+-- by the words after a command: with the names that they define, or as words that are none of
+-- the command
 abbrev pub WordsEnded : (Defines → Ending) → Result Defines (Unit {0}) → Ending
 WordsEnded EndedWith (Ok defines) = EndedWith defines
 WordsEnded EndedWith (Err none) = Ended usage
@@ -33,4 +34,5 @@ EndedAs outside false false words = Ended (tool_answer words)
 
 -- how a command ends, by its words and by the stored functions
 abbrev pub ToolEnded : Outside → List Text → Ending
-ToolEnded outside words = EndedAs outside (is_command (codes "check") words) (is_command (codes "plain") words) words
+ToolEnded outside words =
+    EndedAs outside (is_command (codes "check") words) (is_command (codes "plain") words) words

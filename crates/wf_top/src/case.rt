@@ -26,10 +26,14 @@ pub(crate) fn case_of_store<S: Store, M: Meanings, F: Answering<M>>(
     requires { AcceptsHooks M.accepts hooks.now }
     ensures sound { IfOk result (λ c. IsSetUp c.plan) }
     ensures calls { IfOk result (λ c. All (CallsHooks hooks.now) c.plan.items) }
-    ensures case { (m : Files) → S.files store.old ≡ Some m → Gives (λ c. c) refusal_of result (case_read hooks.now m defines.now) }
-    ensures only { OnlyRead (S.files store.old) (S.files store.new) (S.faults store.old) (S.faults store.new) }
-    ensures fault { IfErr result (λ e. FaultTold e (S.faults store.old) (S.faults store.new) (S.failed store.new)) }
-    ensures asked { IfErr result (λ e. (m : Files) → S.files store.old ≡ Some m → FaultAmong e (case_names m defines.now)) }
+    ensures case { (m : Files) → S.files store.old ≡ Some m
+        → Gives (λ c. c) refusal_of result (case_read hooks.now m defines.now) }
+    ensures only { OnlyRead (S.files store.old) (S.files store.new) (S.faults store.old)
+        (S.faults store.new) }
+    ensures fault { IfErr result
+        (λ e. FaultTold e (S.faults store.old) (S.faults store.new) (S.failed store.new)) }
+    ensures asked { IfErr result (λ e. (m : Files) → S.files store.old ≡ Some m
+        → FaultAmong e (case_names m defines.now)) }
 {
     read_case(alloc, store, defines, hooks.names())
 }

@@ -26,8 +26,10 @@ fn check_case<S: Store, O: Sink, M: Meanings, F: Answering<M>>(
     hooks: &HookTable<M, F>,
 ) -> u8
     requires { AcceptsHooks M.accepts hooks.now }
-    ensures { CheckEnded hooks.now defines.now (S.files store.old) (S.files store.new) (S.faults store.old) (S.faults store.new) (S.failed store.new)
-        (λ status text. Said status text (O.taken out.old) (O.taken out.new) (O.faults out.old) (O.faults out.new) result) }
+    ensures { CheckEnded hooks.now defines.now (S.files store.old) (S.files store.new)
+        (S.faults store.old) (S.faults store.new) (S.failed store.new)
+        (λ status text. Said status text (O.taken out.old) (O.taken out.new) (O.faults out.old)
+            (O.faults out.new) result) }
 {
     match case_of_store(alloc, store, defines, hooks) {
         Ok(case) => match read_text(alloc, &case.config) {
@@ -52,8 +54,11 @@ pub fn end_check<S: Store, O: Sink, M: Meanings, F: Answering<M>>(
     hooks: &HookTable<M, F>,
 ) -> u8
     requires { AcceptsHooks M.accepts hooks.now }
-    ensures { WordsEnded (CheckEnded hooks.now) (check_words (map string_bytes words.now)) (S.files store.old) (S.files store.new) (S.faults store.old) (S.faults store.new) (S.failed store.new)
-        (λ status text. Said status text (O.taken out.old) (O.taken out.new) (O.faults out.old) (O.faults out.new) result) }
+    ensures { WordsEnded (CheckEnded hooks.now) (check_words (map string_bytes words.now))
+        (S.files store.old) (S.files store.new) (S.faults store.old) (S.faults store.new)
+        (S.failed store.new)
+        (λ status text. Said status text (O.taken out.old) (O.taken out.new) (O.faults out.old)
+            (O.faults out.new) result) }
 {
     match check_words(alloc, words) {
         Ok(defines) => check_case(alloc, &defines, store, out, hooks),

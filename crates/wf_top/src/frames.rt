@@ -1,12 +1,14 @@
 //! The frames of the demo's file.
 
-ghost use Rattle.std.specs.Prelude.{◌≡◌, ℕ, ◌+◌, ◌-◌, ◌*◌, ◌<◌, ◌≤◌, ◌^◌, length, sum, sum_by, IfOk, OnOk, OnErr, IsErrOf};
+ghost use Rattle.std.specs.Prelude.{◌≡◌, ℕ, ◌+◌, ◌-◌, ◌*◌, ◌<◌, ◌≤◌, ◌^◌, length, sum, sum_by};
+ghost use Rattle.std.specs.Prelude.{IfOk, OnOk, OnErr, IsErrOf};
 ghost use Rattle.std.specs.List.{range_with_len};
 ghost use Rattle.wf_io.specs.Files.{Counted};
 ghost use Rattle.wf_model.specs.Calendar.{time_text};
 ghost use Rattle.wf_model.specs.DemoCase.{case_start};
 ghost use Rattle.wf_model.specs.Bytes.{slab_bytes};
-ghost use Rattle.wf_model.specs.Demo.{demo_file, demo_time, demo_grid, demo_frame, demo_frames, demo_header, frame_sum};
+ghost use Rattle.wf_model.specs.Demo.{demo_file, demo_time, demo_grid, demo_frame, demo_frames};
+ghost use Rattle.wf_model.specs.Demo.{demo_header, frame_sum};
 ghost use Rattle.wf_model.specs.StoreRuns.{Ran, Stopped};
 ghost use Rattle.wf_top.specs.Domains.{IsDomain, SameSize, HoldGrid};
 ghost use Rattle.wf_top.specs.Told.{HasHeader, file_calls};
@@ -53,7 +55,8 @@ struct FrameBytes {
     slab: Vec<u8>,
 }
 
-// The frame after so many steps. It puts the numbers of all points into `values`, in place of what it held.
+// The frame after so many steps. It puts the numbers of all points into `values`, in place of what
+// it held.
 fn frame_bytes(
     alloc: Global,
     patches: &Patches,
@@ -64,7 +67,8 @@ fn frame_bytes(
     requires grid { (m : ℕ) × HoldGrid step m patches.now }
     requires step { step ≤ 100 }
     ensures time { IfOk result (λ f. f.time.items ≡ demo_time step) }
-    ensures slab { IfOk result (λ f. f.slab.items ≡ slab_bytes (demo_grid patches.now.nx patches.now.ny step)) }
+    ensures slab { IfOk result
+        (λ f. f.slab.items ≡ slab_bytes (demo_grid patches.now.nx patches.now.ny step)) }
 {
     patches.assemble(values)?;
     Ok(FrameBytes {
@@ -85,12 +89,15 @@ fn write_frame<S: Store>(
     requires grid { (m : ℕ) × HoldGrid step m patches.now }
     requires step { step ≤ 100 }
     requires there { HasHeader (S.files store.old) }
-    ensures ok { OnOk result (Ran (demo_frame patches.now.nx patches.now.ny step) (S.files store.old) (S.files store.new)) }
+    ensures ok { OnOk result (Ran (demo_frame patches.now.nx patches.now.ny step)
+        (S.files store.old) (S.files store.new)) }
     ensures there { OnOk result (HasHeader (S.files store.new)) }
     ensures sum { IfOk result (λ s. s ≡ frame_sum patches.now.nx patches.now.ny step) }
     ensures bound { IfOk result (λ s. s ≤ 41000000) }
-    ensures err { OnErr result (Stopped (demo_frame patches.now.nx patches.now.ny step) (S.files store.old) (S.files store.new)) }
-    ensures failed_call { IsErrOf result IoError.Fault → Failed (demo_frame patches.now.nx patches.now.ny step) demo_file (S.files store.old) (S.files store.new) }
+    ensures err { OnErr result (Stopped (demo_frame patches.now.nx patches.now.ny step)
+        (S.files store.old) (S.files store.new)) }
+    ensures failed_call { IsErrOf result IoError.Fault → Failed (demo_frame patches.now.nx
+        patches.now.ny step) demo_file (S.files store.old) (S.files store.new) }
     ensures faults { Counted (S.faults store.old) (S.faults store.new) result }
     ensures failed { IsErrOf result IoError.Fault → S.failed store.new ≡ demo_file }
 {
@@ -116,13 +123,17 @@ fn write_frames<S: Store>(
     requires grid { HoldGrid 0 0 patches.old }
     requires steps { steps ≤ 100 }
     requires there { HasHeader (S.files store.old) }
-    ensures ok { OnOk result (Ran (demo_frames patches.old.nx patches.old.ny (steps + 1)) (S.files store.old) (S.files store.new)) }
-    ensures sum { IfOk result (λ s. s ≡ sum_by (frame_sum patches.old.nx patches.old.ny) (range_with_len 0 (steps + 1))) }
+    ensures ok { OnOk result (Ran (demo_frames patches.old.nx patches.old.ny (steps + 1))
+        (S.files store.old) (S.files store.new)) }
+    ensures sum { IfOk result
+        (λ s. s ≡ sum_by (frame_sum patches.old.nx patches.old.ny) (range_with_len 0 (steps + 1))) }
     ensures domain { OnOk result (IsDomain patches.new) }
     ensures size { OnOk result (SameSize patches.old patches.new) }
     ensures grid { OnOk result (HoldGrid steps (steps - 1) patches.new) }
-    ensures err { OnErr result (Stopped (demo_frames patches.old.nx patches.old.ny (steps + 1)) (S.files store.old) (S.files store.new)) }
-    ensures failed_call { IsErrOf result IoError.Fault → Failed (demo_frames patches.old.nx patches.old.ny (steps + 1)) demo_file (S.files store.old) (S.files store.new) }
+    ensures err { OnErr result (Stopped (demo_frames patches.old.nx patches.old.ny (steps + 1))
+        (S.files store.old) (S.files store.new)) }
+    ensures failed_call { IsErrOf result IoError.Fault → Failed (demo_frames patches.old.nx
+        patches.old.ny (steps + 1)) demo_file (S.files store.old) (S.files store.new) }
     ensures faults { Counted (S.faults store.old) (S.faults store.new) result }
     ensures failed { IsErrOf result IoError.Fault → S.failed store.new ≡ demo_file }
 {
@@ -142,8 +153,8 @@ fn write_frames<S: Store>(
     }
 }
 
-/// Makes the demo's file with all its frames, from patches before the first step, which are then after the last. It gives
-/// the sum of the frames' bytes.
+/// Makes the demo's file with all its frames, from patches before the first step, which are then
+/// after the last. It gives the sum of the frames' bytes.
 pub fn write_file<S: Store>(
     alloc: Global,
     store: &mut S,
@@ -155,13 +166,17 @@ pub fn write_file<S: Store>(
     requires grid { HoldGrid 0 0 patches.old }
     requires steps { steps ≤ 100 }
     requires header { header.now ≡ demo_header patches.old.nx patches.old.ny steps }
-    ensures ok { OnOk result (Ran (file_calls patches.old.nx patches.old.ny steps) (S.files store.old) (S.files store.new)) }
-    ensures sum { IfOk result (λ s. s ≡ sum_by (frame_sum patches.old.nx patches.old.ny) (range_with_len 0 (steps + 1))) }
+    ensures ok { OnOk result (Ran (file_calls patches.old.nx patches.old.ny steps)
+        (S.files store.old) (S.files store.new)) }
+    ensures sum { IfOk result
+        (λ s. s ≡ sum_by (frame_sum patches.old.nx patches.old.ny) (range_with_len 0 (steps + 1))) }
     ensures domain { OnOk result (IsDomain patches.new) }
     ensures size { OnOk result (SameSize patches.old patches.new) }
     ensures grid { OnOk result (HoldGrid steps (steps - 1) patches.new) }
-    ensures err { OnErr result (Stopped (file_calls patches.old.nx patches.old.ny steps) (S.files store.old) (S.files store.new)) }
-    ensures failed_call { IsErrOf result IoError.Fault → Failed (file_calls patches.old.nx patches.old.ny steps) demo_file (S.files store.old) (S.files store.new) }
+    ensures err { OnErr result (Stopped (file_calls patches.old.nx patches.old.ny steps)
+        (S.files store.old) (S.files store.new)) }
+    ensures failed_call { IsErrOf result IoError.Fault → Failed (file_calls patches.old.nx
+        patches.old.ny steps) demo_file (S.files store.old) (S.files store.new) }
     ensures faults { Counted (S.faults store.old) (S.faults store.new) result }
     ensures failed { IsErrOf result IoError.Fault → S.failed store.new ≡ demo_file }
 {

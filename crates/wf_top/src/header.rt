@@ -7,11 +7,8 @@ ghost use Rattle.wf_top.specs.DemoHeader.{demo_dims, demo_atts, field_atts, demo
 
 use std::alloc::{AllocError, Global};
 use wf_cdf::{place_vars, write_header};
+use wf_model::cdf_type::{CHAR, INT};
 use wf_model::{Att, Bytes, Dim, Header, List, Var};
-
-const CHAR: u8 = 2;
-
-const INT: u8 = 4;
 
 fn bytes(alloc: Global, text: &[u8]) -> Result<Bytes, AllocError>
     ensures { IfOk result (λ b. b ≡ text.now) }

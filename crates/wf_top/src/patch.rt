@@ -1,6 +1,7 @@
 //! Patches: blocks of columns, each with a memory of its own.
 
-ghost use Rattle.std.specs.Prelude.{◌≡◌, ℕ, ◌+◌, ◌-◌, ◌*◌, ◌<◌, ◌≤◌, length, pos, slice_index_or, IfOk};
+ghost use Rattle.std.specs.Prelude.{◌≡◌, ℕ, ◌+◌, ◌-◌, ◌*◌, ◌<◌, ◌≤◌, length, pos, slice_index_or};
+ghost use Rattle.std.specs.Prelude.{IfOk};
 ghost use Rattle.wf_model.specs.Demo.{demo_value};
 ghost use Rattle.wf_top.specs.Cells.{cell, next_at, AreSmall};
 ghost use Rattle.wf_top.specs.Memories.{IsBlock, HasRows, Hold, KeepsShape, Took};
@@ -9,7 +10,8 @@ use crate::cells::{first_cells, next_cells, write_column};
 use std::alloc::{AllocError, Global};
 use std::mem;
 
-/// A patch, with its memory: its own columns of the domain, and the column beside each end where the domain has one.
+/// A patch, with its memory: its own columns of the domain, and the column beside each end where
+/// the domain has one.
 #[derive(Drop)]
 pub struct Patch {
     /// The columns of the domain before the memory.
@@ -60,7 +62,8 @@ impl Patch {
         requires place { c < self.old.width }
         requires rows { HasRows (length column.now) self.old }
         ensures shape { KeepsShape self.old self.new }
-        ensures took { Took c (length column.now) (λ r. slice_index_or column.now r (pos 0)) self.old self.new }
+        ensures took { Took c (length column.now)
+            (λ r. slice_index_or column.now r (pos 0)) self.old self.new }
     {
         write_column(&mut self.values, self.width, c, column);
     }
@@ -71,7 +74,8 @@ impl Patch {
         requires rows { HasRows rows self.old }
         requires small { AreSmall self.old.values.items self.old.width rows }
         ensures shape { KeepsShape self.old self.new }
-        ensures cells { (r c : ℕ) → r < rows → c < self.old.width → cell self.new.values.items self.old.width r c ≡ next_at self.old.values.items self.old.width rows r c }
+        ensures cells { (r c : ℕ) → r < rows → c < self.old.width → cell self.new.values.items
+            self.old.width r c ≡ next_at self.old.values.items self.old.width rows r c }
     {
         next_cells(&self.values, &mut self.scratch, self.width, rows);
         mem::swap(&mut self.values, &mut self.scratch);

@@ -1,8 +1,10 @@
 //! All patches of a domain.
 
-ghost use Rattle.std.specs.Prelude.{◌≡◌, ◌≢◌, ℕ, ◌+◌, ◌-◌, ◌*◌, ◌/◌, ◌<◌, ◌≤◌, length, get_or, IfOk};
+ghost use Rattle.std.specs.Prelude.{◌≡◌, ◌≢◌, ℕ, ◌+◌, ◌-◌, ◌*◌, ◌/◌, ◌<◌, ◌≤◌, length, get_or};
+ghost use Rattle.std.specs.Prelude.{IfOk};
 ghost use Rattle.wf_top.specs.declared.patch.Patch.{Patch};
-ghost use Rattle.wf_top.specs.Memories.{Inside, Holds, Each, IsPatch, HasRows, KeepsShape, Took, column_of};
+ghost use Rattle.wf_top.specs.Memories.{Inside, Holds, Each, IsPatch, HasRows, KeepsShape, Took};
+ghost use Rattle.wf_top.specs.Memories.{column_of};
 ghost use Rattle.wf_top.specs.Domains.{IsDomain, SameSize, AllHold, HoldSteps, HoldGrid};
 
 use crate::cells::read_column;
@@ -23,7 +25,8 @@ impl Patches {
     /// The patches of so many blocks of columns, before the first step.
     pub fn new(alloc: Global, nx: usize, ny: usize, px: usize) -> Result<Patches, AllocError>
         requires { (0 < px) × (px ≤ nx) × (nx ≤ 200) × (0 < ny) × (ny ≤ 200) }
-        ensures size { IfOk result (λ all. (all.nx ≡ nx) × (all.ny ≡ ny) × (length all.patches.items ≡ px)) }
+        ensures size { IfOk result (λ all. (all.nx ≡ nx) × (all.ny ≡ ny)
+            × (length all.patches.items ≡ px)) }
         ensures domain { IfOk result IsDomain }
         ensures holds { IfOk result (HoldGrid 0 0) }
     {
@@ -40,13 +43,15 @@ impl Patches {
         })
     }
 
-    // A patch takes the column before its own, which is the last own column of its western neighbour.
+    // A patch takes the column before its own, which is the last own column of its
+    // western neighbour.
     fn take_from_west(&mut self, p: usize)
         requires domain { IsDomain self.old }
         requires place { (0 < p) × (p < length self.old.patches.items) }
         ensures domain { IsDomain self.new }
         ensures size { SameSize self.old self.new }
-        ensures others { (q : ℕ) (other : Patch) → q ≢ p → get_or self.new.patches.items q other ≡ get_or self.old.patches.items q other }
+        ensures others { (q : ℕ) (other : Patch) → q ≢ p
+            → get_or self.new.patches.items q other ≡ get_or self.old.patches.items q other }
         ensures taken { (own west east : ℕ → ℕ → ℕ) (other : Patch)
             → Inside own self.old.ny (get_or self.old.patches.items (p - 1) other)
             → Holds self.old.ny own west east (get_or self.old.patches.items p other)
@@ -57,13 +62,15 @@ impl Patches {
         pass_column(&mut self.patches, &mut self.column, p - 1, last, p, 0);
     }
 
-    // A patch takes the column behind its own, which is the first own column of its eastern neighbour.
+    // A patch takes the column behind its own, which is the first own column of its
+    // eastern neighbour.
     fn take_from_east(&mut self, p: usize)
         requires domain { IsDomain self.old }
         requires place { p + 1 < length self.old.patches.items }
         ensures domain { IsDomain self.new }
         ensures size { SameSize self.old self.new }
-        ensures others { (q : ℕ) (other : Patch) → q ≢ p → get_or self.new.patches.items q other ≡ get_or self.old.patches.items q other }
+        ensures others { (q : ℕ) (other : Patch) → q ≢ p
+            → get_or self.new.patches.items q other ≡ get_or self.old.patches.items q other }
         ensures taken { (own west east : ℕ → ℕ → ℕ) (other : Patch)
             → Inside own self.old.ny (get_or self.old.patches.items (p + 1) other)
             → Holds self.old.ny own west east (get_or self.old.patches.items p other)
@@ -80,7 +87,8 @@ impl Patches {
         requires { IsDomain self.old }
         ensures domain { IsDomain self.new }
         ensures size { SameSize self.old self.new }
-        ensures exchanged { (own west east : ℕ → ℕ → ℕ) → AllHold own west east self.old → AllHold own own east self.new }
+        ensures exchanged { (own west east : ℕ → ℕ → ℕ) → AllHold own west east self.old
+            → AllHold own own east self.new }
     {
         for p in 1..self.patches.len() {
             self.take_from_west(p);
@@ -92,7 +100,8 @@ impl Patches {
         requires { IsDomain self.old }
         ensures domain { IsDomain self.new }
         ensures size { SameSize self.old self.new }
-        ensures exchanged { (own west east : ℕ → ℕ → ℕ) → AllHold own west east self.old → AllHold own west own self.new }
+        ensures exchanged { (own west east : ℕ → ℕ → ℕ) → AllHold own west east self.old
+            → AllHold own west own self.new }
     {
         for p in 0..self.patches.len() - 1 {
             self.take_from_east(p);
@@ -103,11 +112,15 @@ impl Patches {
     fn step_patch(&mut self, p: usize)
         requires domain { IsDomain self.old }
         requires place { p < length self.old.patches.items }
-        requires grid { (n : ℕ) × ((other : Patch) → HoldSteps self.old n n (get_or self.old.patches.items p other)) }
+        requires grid { (n : ℕ)
+            × ((other : Patch) → HoldSteps self.old n n (get_or self.old.patches.items p other)) }
         ensures domain { IsDomain self.new }
         ensures size { SameSize self.old self.new }
-        ensures others { (q : ℕ) (other : Patch) → q ≢ p → get_or self.new.patches.items q other ≡ get_or self.old.patches.items q other }
-        ensures stepped { (n : ℕ) (other : Patch) → HoldSteps self.old n n (get_or self.old.patches.items p other) → HoldSteps self.old (n + 1) n (get_or self.new.patches.items p other) }
+        ensures others { (q : ℕ) (other : Patch) → q ≢ p
+            → get_or self.new.patches.items q other ≡ get_or self.old.patches.items q other }
+        ensures stepped { (n : ℕ) (other : Patch)
+            → HoldSteps self.old n n (get_or self.old.patches.items p other)
+            → HoldSteps self.old (n + 1) n (get_or self.new.patches.items p other) }
     {
         let rows = self.ny;
         self.patches[p].step(rows);
@@ -153,9 +166,13 @@ fn pass_column(
     requires rows { Each (λ _ patch. HasRows (length column.old) patch) patches.old }
     requires from { (other : Patch) → from < (get_or patches.old source other).width }
     requires to { (other : Patch) → to < (get_or patches.old target other).width }
-    ensures shape { (other : Patch) → KeepsShape (get_or patches.old target other) (get_or patches.new target other) }
-    ensures took { (other : Patch) → Took to (length column.old) (column_of (get_or patches.old source other) from) (get_or patches.old target other) (get_or patches.new target other) }
-    ensures others { (q : ℕ) (other : Patch) → q ≢ target → get_or patches.new q other ≡ get_or patches.old q other }
+    ensures shape { (other : Patch)
+        → KeepsShape (get_or patches.old target other) (get_or patches.new target other) }
+    ensures took { (other : Patch)
+        → Took to (length column.old) (column_of (get_or patches.old source other) from)
+        (get_or patches.old target other) (get_or patches.new target other) }
+    ensures others { (q : ℕ) (other : Patch) → q ≢ target
+        → get_or patches.new q other ≡ get_or patches.old q other }
 {
     let neighbour = &patches[source];
     read_column(&neighbour.values, neighbour.width, from, column);

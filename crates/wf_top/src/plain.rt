@@ -13,7 +13,8 @@ ghost use Rattle.wf_grid.specs.Held.{point_at_end};
 ghost use Rattle.wf_grid.specs.RunEnds.{EndsBy, finished_of};
 ghost use Rattle.wf_words.specs.Commands.{plain_words};
 ghost use Rattle.wf_top.specs.Ends.{Said, CallsEnded};
-ghost use Rattle.wf_top.specs.Plain.{storing, run_from, run_read, plain_names, whole_answer, PlainEnded};
+ghost use Rattle.wf_top.specs.Plain.{storing, run_from, run_read, plain_names, whole_answer};
+ghost use Rattle.wf_top.specs.Plain.{PlainEnded};
 ghost use Rattle.wf_top.specs.Ready.{IsReady};
 ghost use Rattle.wf_top.specs.Tool.{WordsEnded};
 
@@ -31,9 +32,9 @@ use wf_words::{WordsError, plain_words};
 
 /// The plan of a run and what it begins with.
 #[derive(Drop)]
-pub(crate) struct RunParts {
-    pub(crate) plan: Plan,
-    pub(crate) initial: Initial,
+struct RunParts {
+    plan: Plan,
+    initial: Initial,
 }
 
 /// Reads the texts of a run and then its input files.
@@ -44,11 +45,16 @@ pub(crate) fn read_run<S: Store, M: Meanings, F: Answering<M>>(
     hooks: &HookTable<M, F>,
 ) -> Result<RunParts, SetupError>
     requires { AcceptsHooks M.accepts hooks.now }
-    ensures run { (m : Files) → S.files store.old ≡ Some m → Gives (λ r. run_from (storing hooks.now M.answer) r.plan r.initial) refusal_of result (run_read (storing hooks.now M.answer) m defines.now) }
+    ensures run { (m : Files) → S.files store.old ≡ Some m
+        → Gives (λ r. run_from (storing hooks.now M.answer) r.plan r.initial) refusal_of result
+        (run_read (storing hooks.now M.answer) m defines.now) }
     ensures ready { IfOk result (λ r. IsReady hooks.now r.plan r.initial) }
-    ensures only { OnlyRead (S.files store.old) (S.files store.new) (S.faults store.old) (S.faults store.new) }
-    ensures fault { IfErr result (λ e. FaultTold e (S.faults store.old) (S.faults store.new) (S.failed store.new)) }
-    ensures asked { IfErr result (λ e. (m : Files) → S.files store.old ≡ Some m → FaultAmong e (plain_names (storing hooks.now M.answer) m defines.now)) }
+    ensures only { OnlyRead (S.files store.old) (S.files store.new) (S.faults store.old)
+        (S.faults store.new) }
+    ensures fault { IfErr result
+        (λ e. FaultTold e (S.faults store.old) (S.faults store.new) (S.failed store.new)) }
+    ensures asked { IfErr result (λ e. (m : Files) → S.files store.old ≡ Some m
+        → FaultAmong e (plain_names (storing hooks.now M.answer) m defines.now)) }
 {
     let plan = match case_of_store(alloc, store, defines, hooks) {
         Ok(case) => case.plan,
@@ -70,10 +76,15 @@ fn step_run<S: Store, M: Meanings, F: Answering<M>>(
 ) -> Result<Finished, CoreError>
     requires ready { IsReady hooks.now run.plan run.initial }
     requires accepted { AcceptsHooks M.accepts hooks.now }
-    ensures settled { OnOk result (point_at_end (outcome_of (run_from (storing hooks.now M.answer) run.plan run.initial)) ≡ None) }
-    ensures written { OnOk result (Ran (writes_of (run_from (storing hooks.now M.answer) run.plan run.initial)) (S.files store.old) (S.files store.new)) }
-    ensures finished { IfOk result (λ f. f ≡ finished_of (summary_of (run_from (storing hooks.now M.answer) run.plan run.initial))) }
-    ensures error { IfErr result (EndsBy (run_from (storing hooks.now M.answer) run.plan run.initial) (S.files store.old) (S.files store.new) (S.faults store.old) (S.faults store.new) (S.failed store.new)) }
+    ensures settled { OnOk result (point_at_end
+        (outcome_of (run_from (storing hooks.now M.answer) run.plan run.initial)) ≡ None) }
+    ensures written { OnOk result (Ran (writes_of (run_from (storing hooks.now M.answer) run.plan
+        run.initial)) (S.files store.old) (S.files store.new)) }
+    ensures finished { IfOk result (λ f.
+        f ≡ finished_of (summary_of (run_from (storing hooks.now M.answer) run.plan run.initial))) }
+    ensures error { IfErr result
+        (EndsBy (run_from (storing hooks.now M.answer) run.plan run.initial) (S.files store.old)
+        (S.files store.new) (S.faults store.old) (S.faults store.new) (S.failed store.new)) }
 {
     match Whole::new(alloc, run.plan, run.initial) {
         Ok(whole) => whole.step_all(store, hooks),
@@ -91,8 +102,11 @@ fn end_run<S: Store, O: Sink, M: Meanings, F: Answering<M>>(
 ) -> u8
     requires ready { IsReady hooks.now run.plan run.initial }
     requires accepted { AcceptsHooks M.accepts hooks.now }
-    ensures { CallsEnded (whole_answer (run_from (storing hooks.now M.answer) run.plan run.initial)) (S.files store.old) (S.files store.new) (S.faults store.old) (S.faults store.new) (S.failed store.new)
-        (λ status text. Said status text (O.taken out.old) (O.taken out.new) (O.faults out.old) (O.faults out.new) result) }
+    ensures { CallsEnded (whole_answer (run_from (storing hooks.now M.answer) run.plan run.initial))
+        (S.files store.old) (S.files store.new) (S.faults store.old) (S.faults store.new)
+        (S.failed store.new)
+        (λ status text. Said status text (O.taken out.old) (O.taken out.new) (O.faults out.old)
+            (O.faults out.new) result) }
 {
     let names = match PointNames::new(alloc, &run.plan) {
         Ok(names) => names,
@@ -125,8 +139,10 @@ fn plain_case<S: Store, O: Sink, M: Meanings, F: Answering<M>>(
     hooks: &HookTable<M, F>,
 ) -> u8
     requires { AcceptsHooks M.accepts hooks.now }
-    ensures { PlainEnded (storing hooks.now M.answer) defines.now (S.files store.old) (S.files store.new) (S.faults store.old) (S.faults store.new) (S.failed store.new)
-        (λ status text. Said status text (O.taken out.old) (O.taken out.new) (O.faults out.old) (O.faults out.new) result) }
+    ensures { PlainEnded (storing hooks.now M.answer) defines.now (S.files store.old)
+        (S.files store.new) (S.faults store.old) (S.faults store.new) (S.failed store.new)
+        (λ status text. Said status text (O.taken out.old) (O.taken out.new) (O.faults out.old)
+            (O.faults out.new) result) }
 {
     match read_run(alloc, store, defines, hooks) {
         Ok(read) => end_run(alloc, read, store, out, hooks),
@@ -148,8 +164,11 @@ pub fn end_plain<S: Store, O: Sink, M: Meanings, F: Answering<M>>(
     hooks: &HookTable<M, F>,
 ) -> u8
     requires { AcceptsHooks M.accepts hooks.now }
-    ensures { WordsEnded (PlainEnded (storing hooks.now M.answer)) (plain_words (map string_bytes words.now)) (S.files store.old) (S.files store.new) (S.faults store.old) (S.faults store.new) (S.failed store.new)
-        (λ status text. Said status text (O.taken out.old) (O.taken out.new) (O.faults out.old) (O.faults out.new) result) }
+    ensures { WordsEnded (PlainEnded (storing hooks.now M.answer))
+        (plain_words (map string_bytes words.now)) (S.files store.old) (S.files store.new)
+        (S.faults store.old) (S.faults store.new) (S.failed store.new)
+        (λ status text. Said status text (O.taken out.old) (O.taken out.new) (O.faults out.old)
+            (O.faults out.new) result) }
 {
     match plain_words(alloc, words) {
         Ok(defines) => plain_case(alloc, &defines, store, out, hooks),

@@ -14,7 +14,8 @@ impl Patches {
         requires domain { IsDomain self.now }
         requires row { r < self.now.ny }
         ensures { (own west east : ℕ → ℕ → ℕ) → AllHold own west east self.now
-            → OnOk result (values.new.items ≡ values.old.items ++ map (λ i. pos (own (r + 1) i)) (up_to self.now.nx)) }
+            → OnOk result (values.new.items
+            ≡ values.old.items ++ map (λ i. pos (own (r + 1) i)) (up_to self.now.nx)) }
     {
         for patch in &self.patches {
             let start = r * patch.width + patch.west;
@@ -26,7 +27,8 @@ impl Patches {
     /// Puts the numbers of all points into `values`, row by row, in place of what it held.
     pub fn assemble(&self, values: &mut Vec<i32>) -> Result<(), AllocError>
         requires { IsDomain self.now }
-        ensures { (n m : ℕ) → HoldGrid n m self.now → OnOk result (values.new.items ≡ demo_grid self.now.nx self.now.ny n) }
+        ensures { (n m : ℕ) → HoldGrid n m self.now
+            → OnOk result (values.new.items ≡ demo_grid self.now.nx self.now.ny n) }
     {
         values.clear();
         for r in 0..self.ny {

@@ -1,6 +1,7 @@
 //! What a run on whole domains prints.
 
-ghost use Rattle.std.specs.Prelude.{◌≡◌, ◌++◌, [], ◌∷◌, IfOk, codes, decimal, map, slice_index_or, string_bytes};
+ghost use Rattle.std.specs.Prelude.{◌≡◌, ◌++◌, [], ◌∷◌, IfOk, codes, decimal, map, slice_index_or};
+ghost use Rattle.std.specs.Prelude.{string_bytes};
 ghost use Rattle.wf_model.specs.declared.plan.Plan.{Plan};
 ghost use Rattle.wf_model.specs.Answer.{summary_line, overflow_line, phase_name, what_name};
 ghost use Rattle.wf_model.specs.Writes.{Summary};
@@ -82,9 +83,11 @@ impl PointNames {
     }
 }
 
-/// `files F records R bytes B sum S`: files created, records written, bytes behind the headers, and the sum of these bytes.
+/// `files F records R bytes B sum S`: files created, records written, bytes behind the headers, and
+/// the sum of these bytes.
 pub fn summary_text(alloc: Global, finished: &Finished) -> Result<String, AllocError>
-    ensures { (s : Summary) → finished.now ≡ finished_of s → IfOk result (λ t. string_bytes t ≡ summary_line s) }
+    ensures { (s : Summary) → finished.now ≡ finished_of s
+        → IfOk result (λ t. string_bytes t ≡ summary_line s) }
 {
     let files = finished.files;
     let records = finished.records;
@@ -95,26 +98,29 @@ pub fn summary_text(alloc: Global, finished: &Finished) -> Result<String, AllocE
 
 /// `overflow DOMAIN STEP `.
 fn overflow_front(alloc: Global, domain: u32, step: u64) -> Result<String, AllocError>
-    ensures { IfOk result (λ t. string_bytes t ≡ codes "overflow " ++ (decimal domain ++ 32 ∷ (decimal step ++ 32 ∷ []))) }
+    ensures { IfOk result (λ t.
+        string_bytes t ≡ codes "overflow " ++ (decimal domain ++ 32 ∷ (decimal step ++ 32 ∷ []))) }
 {
     format!(in alloc; "overflow {domain} {step} ")
 }
 
 /// ` K J I` and a line feed.
 fn overflow_back(alloc: Global, k: u32, j: u32, i: u32) -> Result<String, AllocError>
-    ensures { IfOk result (λ t. string_bytes t ≡ 32 ∷ (decimal k ++ 32 ∷ (decimal j ++ 32 ∷ (decimal i ++ 10 ∷ [])))) }
+    ensures { IfOk result (λ t.
+        string_bytes t ≡ 32 ∷ (decimal k ++ 32 ∷ (decimal j ++ 32 ∷ (decimal i ++ 10 ∷ [])))) }
 {
     format!(in alloc; " {k} {j} {i}\n")
 }
 
-/// `overflow DOMAIN STEP WHAT FIELD K J I`: the point with the names of its phase and field level. Domains, K, J and I count
-/// from 1.
+/// `overflow DOMAIN STEP WHAT FIELD K J I`: the point with the names of its phase and field level.
+/// Domains, K, J and I count from 1.
 pub fn overflow_text(
     alloc: Global,
     names: &PointNames,
     point: &Point,
 ) -> Result<Vec<u8>, AllocError>
-    ensures { (plan : Plan) → AreNamesOf plan names.now → IfOk result (λ t. t.items ≡ overflow_line plan point.now) }
+    ensures { (plan : Plan) → AreNamesOf plan names.now
+        → IfOk result (λ t. t.items ≡ overflow_line plan point.now) }
 {
     let front = overflow_front(alloc, point.domain, point.step)?;
     let back = overflow_back(alloc, point.k, point.j, point.i)?;

@@ -15,7 +15,8 @@ use std::alloc::{AllocError, Global};
 use wf_model::Demo;
 
 fn summary_line(alloc: Global, records: u32, bytes: u32, sum: u64) -> Result<String, AllocError>
-    ensures { IfOk result (λ t. string_bytes t ≡ summary_line (record { files = 1; records = records; bytes = bytes; sum = sum })) }
+    ensures { IfOk result (λ t. string_bytes t
+        ≡ summary_line (record { files = 1; records = records; bytes = bytes; sum = sum })) }
 {
     let files = 1;
     format!(in alloc; "files {files} records {records} bytes {bytes} sum {sum}\n")
@@ -29,10 +30,12 @@ pub fn demo_text(
     patches: &Patches,
 ) -> Result<String, AllocError>
     requires limits { InLimits demo.now }
-    requires sum { sum ≡ sum_by (frame_sum demo.now.nx demo.now.ny) (range_with_len 0 (demo.now.steps + 1)) }
+    requires sum { sum
+        ≡ sum_by (frame_sum demo.now.nx demo.now.ny) (range_with_len 0 (demo.now.steps + 1)) }
     requires domain { IsDomain patches.now }
     requires end { IsEnd demo.now patches.now }
-    ensures { IfOk result (λ t. string_bytes t ≡ summary_line (demo_summary demo.now) ++ memory_text (how demo.now.each) (demo_memories demo.now)) }
+    ensures { IfOk result (λ t. string_bytes t ≡ summary_line (demo_summary demo.now)
+        ++ memory_text (how demo.now.each) (demo_memories demo.now)) }
 {
     let records = demo.steps + 1;
     let bytes = records * (20 + 4 * (demo.nx * demo.ny));

@@ -79,7 +79,8 @@ fn demo_numbers(x: &[u8], y: &[u8], n: &[u8], p: &[u8], each: bool) -> Option<De
     })
 }
 
-/// The demo that the words ask for, `demo NX NY STEPS PX [--memory]`, or none where they are no such words.
+/// The demo that the words ask for, `demo NX NY STEPS PX [--memory]`, or none where they are no
+/// such words.
 #[tactic(auto, unfolding(wf_model::specs::Demo::demo_of))]
 pub fn read_words(words: &[String]) -> Option<Demo>
     ensures demo { result ≡ demo_of (map string_bytes words.now) }

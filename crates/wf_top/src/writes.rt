@@ -1,6 +1,7 @@
 //! The calls of a store that make a file and add records to it.
 
-ghost use Rattle.std.specs.Prelude.{◌≡◌, ◌⊎◌, ℕ, ◌+◌, ◌≤◌, List, [], ◌∷◌, ◌++◌, length, Option, Some, OnOk, OnErr, IsErrOf, IsSome, IsTrue};
+ghost use Rattle.std.specs.Prelude.{◌≡◌, ◌⊎◌, ℕ, ◌+◌, ◌≤◌, List, [], ◌∷◌, ◌++◌, length, Option};
+ghost use Rattle.std.specs.Prelude.{Some, OnOk, OnErr, IsErrOf, IsSome, IsTrue};
 ghost use Rattle.wf_io.specs.Files.{Counted, failed_name, is_store_name};
 ghost use Rattle.wf_model.specs.Files.{Files, bytes_at, create, append, write_at};
 ghost use Rattle.wf_model.specs.StoreRuns.{Ran, Stopped};
@@ -11,9 +12,12 @@ use wf_io::{IoError, Store};
 /// Makes a file that holds a header.
 pub fn begin_file<S: Store>(store: &mut S, name: &str, header: &[u8]) -> Result<(), IoError>
     requires { IsTrue (is_store_name name.now) }
-    ensures ok { OnOk result (Ran (create name.now ∷ append name.now header.now ∷ []) (S.files store.old) (S.files store.new)) }
-    ensures err { OnErr result (Stopped (create name.now ∷ append name.now header.now ∷ []) (S.files store.old) (S.files store.new)) }
-    ensures failed_call { IsErrOf result IoError.Fault → Failed (create name.now ∷ append name.now header.now ∷ []) name.now (S.files store.old) (S.files store.new) }
+    ensures ok { OnOk result (Ran (create name.now ∷ append name.now header.now ∷ [])
+        (S.files store.old) (S.files store.new)) }
+    ensures err { OnErr result (Stopped (create name.now ∷ append name.now header.now ∷ [])
+        (S.files store.old) (S.files store.new)) }
+    ensures failed_call { IsErrOf result IoError.Fault → Failed (create name.now
+        ∷ append name.now header.now ∷ []) name.now (S.files store.old) (S.files store.new) }
     ensures faults { Counted (S.faults store.old) (S.faults store.new) result }
     ensures failed { S.failed store.new ≡ failed_name result name.now }
 {
@@ -23,7 +27,8 @@ pub fn begin_file<S: Store>(store: &mut S, name: &str, header: &[u8]) -> Result<
     }
 }
 
-/// Adds a record of two variables, and then writes the count of records, four bytes from place 4 on.
+/// Adds a record of two variables, and then writes the count of records, four bytes from place
+/// 4 on.
 pub fn write_record<S: Store>(
     store: &mut S,
     name: &str,
@@ -33,10 +38,15 @@ pub fn write_record<S: Store>(
 ) -> Result<(), IoError>
     requires name { IsTrue (is_store_name name.now) }
     requires there { (m : Files) → S.files store.old ≡ Some m → IsSome (m name.now) }
-    requires within { (m : Files) → S.files store.old ≡ Some m → 4 + length count.now ≤ length (bytes_at m name.now) }
-    ensures ok { OnOk result (Ran (append name.now time.now ∷ append name.now slab.now ∷ write_at name.now 4 count.now ∷ []) (S.files store.old) (S.files store.new)) }
-    ensures err { OnErr result (Stopped (append name.now time.now ∷ append name.now slab.now ∷ write_at name.now 4 count.now ∷ []) (S.files store.old) (S.files store.new)) }
-    ensures failed_call { IsErrOf result IoError.Fault → Failed (append name.now time.now ∷ append name.now slab.now ∷ write_at name.now 4 count.now ∷ []) name.now (S.files store.old) (S.files store.new) }
+    requires within { (m : Files) → S.files store.old ≡ Some m
+        → 4 + length count.now ≤ length (bytes_at m name.now) }
+    ensures ok { OnOk result (Ran (append name.now time.now ∷ append name.now slab.now
+        ∷ write_at name.now 4 count.now ∷ []) (S.files store.old) (S.files store.new)) }
+    ensures err { OnErr result (Stopped (append name.now time.now ∷ append name.now slab.now
+        ∷ write_at name.now 4 count.now ∷ []) (S.files store.old) (S.files store.new)) }
+    ensures failed_call { IsErrOf result IoError.Fault
+        → Failed (append name.now time.now ∷ append name.now slab.now
+        ∷ write_at name.now 4 count.now ∷ []) name.now (S.files store.old) (S.files store.new) }
     ensures faults { Counted (S.faults store.old) (S.faults store.new) result }
     ensures failed { S.failed store.new ≡ failed_name result name.now }
 {

@@ -1,8 +1,11 @@
--- The words of a command that takes `--define LIST` alone, as a simple command of `clap` reads them.
-use Rattle.std.specs.Prelude.{ℕ, ◌+◌, ◌==◌, Bool, List, [], ◌∷◌, Option, Some, None, Result, Ok, Err, length, if◌then◌else◌, codes}
+-- The words of a command that takes `--define LIST` alone, as a simple command of `clap`
+-- reads them.
+use Rattle.std.specs.Prelude.{ℕ, ◌+◌, ◌==◌, Bool, List, [], ◌∷◌, Option, Some, None, Result, Ok}
+use Rattle.std.specs.Prelude.{Err, length, if◌then◌else◌, codes}
 use Rattle.std.specs.Borrow.{Bor}
 use Rattle.std.specs.List.{after_first, before_first, slice_split}
-use Rattle.clap.specs.Words.{App, Kinds, Rule, Text, first_of, matches_of, new_app, new_rule, with_rule, fault_of as clap_fault_of}
+use Rattle.clap.specs.Words.{App, Kinds, Rule, Text, first_of, matches_of, new_app, new_rule}
+use Rattle.clap.specs.Words.{with_rule, fault_of as clap_fault_of}
 use Rattle.wf_model.specs.KeptLines.{Defines, is_condition, is_equals}
 use Rattle.wf_model.specs.Reading.{each}
 use Rattle.wf_words.specs.declared.error.WordsError.{WordsError}
@@ -32,7 +35,8 @@ is_comma b = b == 44
 
 -- NAME=VALUE, both of them names
 abbrev pub pair_of : Text → Result (Text × Text) (Unit {0})
-pair_of word = if is_condition word then Ok (before_first is_equals word, after_first is_equals word) else Err tt
+pair_of word = if is_condition word
+    then Ok (before_first is_equals word, after_first is_equals word) else Err tt
 
 -- pairs joined by commas
 unfoldable pub defines_of : Text → Result Defines (Unit {0})
@@ -48,7 +52,8 @@ unless_refused (k ∷ ks) defines = Err tt
 
 -- the names that are defined, or the fault that the words are none of the command of this name
 unfoldable pub words_of_command : Text → List Text → Result Defines (Unit {0})
-words_of_command name words = unless_refused (refusals name words) (asked_defines (define_text name words))
+words_of_command name words =
+    unless_refused (refusals name words) (asked_defines (define_text name words))
 
 abbrev pub check_words : List Text → Result Defines (Unit {0})
 check_words = words_of_command (codes "check")

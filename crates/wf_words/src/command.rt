@@ -41,9 +41,12 @@ pub fn define_text<'a>(
     name: &'a str,
     words: &'a [String],
 ) -> Result<Option<&'a str>, WordsError>
-    ensures grammar { IfOk result (λ _. refusals name.entry.now (map string_bytes words.entry.now) ≡ []) }
-    ensures usage { IfErr result (λ e. e ≡ Usage → refusals name.entry.now (map string_bytes words.entry.now) ≢ []) }
-    ensures text { IfOk result (λ o. option_map (λ s. s.now) o ≡ define_text name.entry.now (map string_bytes words.entry.now)) }
+    ensures grammar { IfOk result
+        (λ _. refusals name.entry.now (map string_bytes words.entry.now) ≡ []) }
+    ensures usage { IfErr result (λ e. e ≡ Usage
+        → refusals name.entry.now (map string_bytes words.entry.now) ≢ []) }
+    ensures text { IfOk result (λ o.
+        option_map (λ s. s.now) o ≡ define_text name.entry.now (map string_bytes words.entry.now)) }
 {
     let command = match command_named(alloc, name) {
         Ok(command) => command,

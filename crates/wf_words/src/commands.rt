@@ -19,7 +19,8 @@ fn words_of_command(
     name: &str,
     words: &[String],
 ) -> Result<Vec<(Name, Name)>, WordsError>
-    ensures { Gives (λ v. v.items) fault_of result (words_of_command name.now (map string_bytes words.now)) }
+    ensures { Gives (λ v. v.items) fault_of result
+        (words_of_command name.now (map string_bytes words.now)) }
 {
     match define_text(alloc, name, words) {
         Ok(None) => Ok(Vec::new(alloc)),
@@ -28,19 +29,20 @@ fn words_of_command(
     }
 }
 
-/// The names that the words define, each with a value: `check [--define LIST]`, the command's name first.
+/// The names that the words define, each with a value: `check [--define LIST]`, the command's
+/// name first.
 ///
-/// LIST is `NAME=VALUE` pairs joined by commas, where both parts are 1 to 64 letters, digits and `_`. `--define=LIST` is
-/// the same, and a lone `--` may stand last. An option that is repeated, shortened or unknown, `--help` and any other word
-/// are none of this command.
+/// LIST is `NAME=VALUE` pairs joined by commas, where both parts are 1 to 64 letters, digits and
+/// `_`. `--define=LIST` is the same, and a lone `--` may stand last. An option that is repeated,
+/// shortened or unknown, `--help` and any other word are none of this command.
 pub fn check_words(alloc: Global, words: &[String]) -> Result<Vec<(Name, Name)>, WordsError>
     ensures { Gives (λ v. v.items) fault_of result (check_words (map string_bytes words.now)) }
 {
     words_of_command(alloc, "check", words)
 }
 
-/// The names that the words define, each with a value: `plain [--define LIST]`, the command's name first. LIST is as
-/// [`check_words`] reads it.
+/// The names that the words define, each with a value: `plain [--define LIST]`, the command's name
+/// first. LIST is as [`check_words`] reads it.
 pub fn plain_words(alloc: Global, words: &[String]) -> Result<Vec<(Name, Name)>, WordsError>
     ensures { Gives (λ v. v.items) fault_of result (plain_words (map string_bytes words.now)) }
 {

@@ -9,9 +9,9 @@ returns c =
     let domain = c.domain.ensures in
     record {
       extents = record {
-        columns = c.extents_of.ensures.columns ∙ (λ n. (domain n).ide - 1 + extra (level n).stag_x (domain n).periodic_x);
-        rows = c.extents_of.ensures.rows ∙ (λ n. (domain n).jde - 1 + extra (level n).stag_y (domain n).periodic_y);
-        levels = c.extents_of.ensures.levels ∙ ap (λ (x : Field). x.nz) level;
+        columns = c.extents.ensures.columns ∙ (λ n. (domain n).ide - 1 + extra (level n).stag_x (domain n).periodic_x);
+        rows = c.extents.ensures.rows ∙ (λ n. (domain n).jde - 1 + extra (level n).stag_y (domain n).periodic_y);
+        levels = c.extents.ensures.levels ∙ ap (λ (x : Field). x.nz) level;
       };
       z = ap (λ (x : Field). x.z) level;
     }

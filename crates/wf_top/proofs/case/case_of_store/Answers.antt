@@ -3,7 +3,7 @@ use Rattle.std.specs.List.{All}
 use Rattle.wf_model.specs.declared.table.HookName.{HookName}
 use Rattle.wf_model.specs.Reading.{Gives}
 use Rattle.wf_model.specs.Sound.{CallsHooks}
-use Rattle.wf_hooks.specs.Accepts.{HasFewArguments}
+use Rattle.wf_model.specs.Hooks.{HasFewArguments}
 use Rattle.wf_setup.specs.Cases.{case_read}
 use Rattle.wf_setup.specs.Errors.{refusal_of}
 use Rattle.wf_top.proofs.case.case_of_store.Goals as goal

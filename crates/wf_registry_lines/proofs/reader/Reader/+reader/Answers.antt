@@ -21,7 +21,7 @@ use Rattle.wf_registry_lines.proofs.LinesAhead.{all_read, next_fails, next_read}
 use Rattle.wf_registry_lines.proofs.Places.{text_here}
 use Rattle.wf_registry_lines.proofs.Stops.{stop_fails, stop_placed}
 use Rattle.wf_registry_lines.proofs.reader.Reader.+reader.Goals as goal
-use Rattle.wf_registry_lines.proofs.reader.Reader.+reader.Goals.{named-then-depth-eq0-via-then-depth-eq0, named-then-depth-eq0-via-else-depth-eq0+then-progress-ge-MOST_FILES}
+use Rattle.wf_registry_lines.proofs.reader.Reader.+reader.Goals.{named-then-depth-eq0-via-then-depth-eq0, named-then-depth-eq0-via-else-depth-eq0+then-progress-ge-REGISTRY_FILES}
 
 pub line-returns-in-Ifdef-clause-read : goal.line-returns-in-Ifdef-clause-read
 line-returns-in-Ifdef-clause-read t c =
@@ -137,7 +137,7 @@ named-returns-then-depth-eq0-clause-read t c =
     (includes_at c.args.depth files c.args.self.now.defines.now c.args.reading.now (met_in files c.args.progress) (name_at files c.args.place) c.args.line c.args.name.now) c.stop.ensures
     (elim c.then-depth-eq0.branch [
       | named-then-depth-eq0-via-then-depth-eq0 w ↦ no_depth c.args.depth files defines names (met_in files c.args.progress) (name_at files c.args.place) c.args.line c.args.name.now w.if-depth-eq0.true
-      | named-then-depth-eq0-via-else-depth-eq0+then-progress-ge-MOST_FILES w ↦ many_files c.args.depth files defines names (met_in files c.args.progress) (name_at files c.args.place) c.args.line c.args.name.now w.if-progress-ge-MOST_FILES.true
+      | named-then-depth-eq0-via-else-depth-eq0+then-progress-ge-REGISTRY_FILES w ↦ many_files c.args.depth files defines names (met_in files c.args.progress) (name_at files c.args.place) c.args.line c.args.name.now w.if-progress-ge-REGISTRY_FILES.true
     ])
 
 pub named-returns-then-is_among-clause-read : goal.named-returns-then-is_among-clause-read

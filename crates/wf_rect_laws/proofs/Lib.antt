@@ -1,0 +1,4 @@
+pub mod SameBoxes
+pub mod BlockPoints
+pub mod RowRanges
+pub mod PatchBlocks
