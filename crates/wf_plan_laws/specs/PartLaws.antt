@@ -25,14 +25,14 @@ use Rattle.wf_plan_laws.specs.ReadLaws.{AreExtents, NamesLevels}
 abbrev pub PhasesNameLevels : Type 0
 PhasesNameLevels =
     (config : Config) (hooks : List HookName) (plan : Plan)
-        → plan.fields ≡ field_levels config hooks → AreItemsOf config hooks plan.items
+    → plan.fields ≡ field_levels config hooks → AreItemsOf config hooks plan.items
     → All (NamesLevels plan) (phases plan.items)
 
 -- where the phases are sound, so are all items
 abbrev pub ItemsAreSound : Type 0
 ItemsAreSound =
     (config : Config) (hooks : List HookName) (plan : Plan)
-        → plan.fields ≡ field_levels config hooks → AreItemsOf config hooks plan.items
+    → plan.fields ≡ field_levels config hooks → AreItemsOf config hooks plan.items
     → All (IsSoundPhase plan) (phases plan.items) → All (IsSoundItem plan) plan.items
 
 -- ---- field levels
@@ -46,9 +46,9 @@ pub record AreSoundFields (plan : Plan) (zs : List ℤ) : Type 0 where
 abbrev pub FieldsAreSound : Type 0
 FieldsAreSound =
     (config : Config) (hooks : List HookName) (plan : Plan) → IsSoundConfig config
-        → plan.fields ≡ field_levels config hooks
+    → plan.fields ≡ field_levels config hooks
     → first_fault (map extent_fault (z_extents config)) ≡ None
-        → AreSoundFields plan (z_extents config)
+    → AreSoundFields plan (z_extents config)
 
 -- ---- limits
 
@@ -75,5 +75,5 @@ DomainsAreCounted = (config : Config) (hooks : List HookName) (items : List Item
 abbrev pub DomainsAreSingle : Type 0
 DomainsAreSingle =
     (config : Config) → integer config (codes "max_dom") 1 ≡ pos (domain_total config)
-        → first_fault (map (unbuilt_fault config) unbuilt) ≡ None
+    → first_fault (map (unbuilt_fault config) unbuilt) ≡ None
     → domain_total config ≤ 1

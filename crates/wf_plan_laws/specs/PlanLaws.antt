@@ -34,9 +34,9 @@ pub record IsAcceptedPlan (hooks : List HookName) (plan : Plan) : Type 0 where
 abbrev pub PlansWithHooksAreSound : Type 0
 PlansWithHooksAreSound =
     (files : List SourceFile) (defines : Defines) (registry : Registry) (namelist : Namelist)
-        (config : Config) (hooks : List HookName)
+    (config : Config) (hooks : List HookName)
     (text : List ℕ) (items : List Item) (plan : Plan)
     → registry_of files defines ≡ Ok registry → config_of registry namelist ≡ Ok config
-        → All HasFewArguments hooks
+    → All HasFewArguments hooks
     → table_of text (names_of config hooks) ≡ Ok items → plan_of config hooks items ≡ Ok plan
-        → IsAcceptedPlan hooks plan
+    → IsAcceptedPlan hooks plan

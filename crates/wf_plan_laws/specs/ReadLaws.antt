@@ -23,5 +23,5 @@ pub record NamesLevels (plan : Plan) (ph : Phase) : Type 0 where
 abbrev pub ReadsAreSound : Type 0
 ReadsAreSound =
     (plan : Plan) (zs : List ℤ) → AreExtents plan zs → 1 ≤ length plan.domains
-        → All (NamesLevels plan) (phases plan.items)
+    → All (NamesLevels plan) (phases plan.items)
     → first_fault (read_faults plan zs) ≡ None → All (IsSoundPhase plan) (phases plan.items)

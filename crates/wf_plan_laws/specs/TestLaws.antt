@@ -20,5 +20,5 @@ pub record PassesTests (config : Config) (plan : Plan) : Type 0 where
 abbrev pub PlansPassTheirTests : Type 0
 PlansPassTheirTests =
     (config : Config) (hooks : List HookName) (items : List Item) (plan : Plan)
-        → plan_of config hooks items ≡ Ok plan
+    → plan_of config hooks items ≡ Ok plan
     → (plan_from config hooks items ≡ plan) × PassesTests config plan

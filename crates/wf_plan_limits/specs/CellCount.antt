@@ -8,7 +8,7 @@ use Rattle.wf_model.specs.Plans.{extra}
 abbrev pub level_cells : Domain → Field → ℕ
 level_cells domain field =
     field.nz * ((domain.jde - 1 + extra field.stag_y domain.periodic_y)
-        * (domain.ide - 1 + extra field.stag_x domain.periodic_x))
+    * (domain.ide - 1 + extra field.stag_x domain.periodic_x))
 
 -- of all levels
 abbrev pub domain_cells : List Field → Domain → ℕ

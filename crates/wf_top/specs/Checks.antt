@@ -55,5 +55,5 @@ abbrev pub CheckEnded : List HookName → Defines → Option Files → Option Fi
     (ℕ → List ℕ → Type 0) → Type 0
 CheckEnded hooks defines old new before after failed Says =
     CheckAnswered hooks defines old new Says
-        ⊎ (ReadFailed (λ m. case_names m defines) old new before after failed Says
-        ⊎ CheckLacked old new Says)
+    ⊎ (ReadFailed (λ m. case_names m defines) old new before after failed Says
+    ⊎ CheckLacked old new Says)

@@ -24,7 +24,10 @@ use Rattle.wf_top.specs.Ends.{CallsEnded, ReadFailed}
 -- these functions are stored, and answer so. How the words are read is not looked at
 abbrev pub storing : List HookName → Answers → Outside
 storing hooks answers = record {
-    command = λ words. Err (record { status = usage.status; line = usage.text }); hooks = hooks; answers = answers }
+  command = λ words. Err (record { status = usage.status; line = usage.text });
+  hooks = hooks;
+  answers = answers;
+}
 
 -- what `plain` answers with these files
 abbrev pub plain_answer : Outside → Files → Defines → Answer
@@ -79,4 +82,4 @@ abbrev pub PlainEnded : Outside → Defines → Option Files → Option Files �
     (ℕ → List ℕ → Type 0) → Type 0
 PlainEnded outside defines old new before after failed Says =
     PlainAnswered outside defines old new before after failed Says
-        ⊎ ReadFailed (λ m. plain_names outside m defines) old new before after failed Says
+    ⊎ ReadFailed (λ m. plain_names outside m defines) old new before after failed Says

@@ -29,7 +29,7 @@ fn check_case<S: Store, O: Sink, M: Meanings, F: Answering<M>>(
     ensures { CheckEnded hooks.now defines.now (S.files store.old) (S.files store.new)
         (S.faults store.old) (S.faults store.new) (S.failed store.new)
         (λ status text. Said status text (O.taken out.old) (O.taken out.new) (O.faults out.old)
-            (O.faults out.new) result) }
+        (O.faults out.new) result) }
 {
     match case_of_store(alloc, store, defines, hooks) {
         Ok(case) => match read_text(alloc, &case.config) {
@@ -58,7 +58,7 @@ pub fn end_check<S: Store, O: Sink, M: Meanings, F: Answering<M>>(
         (S.files store.old) (S.files store.new) (S.faults store.old) (S.faults store.new)
         (S.failed store.new)
         (λ status text. Said status text (O.taken out.old) (O.taken out.new) (O.faults out.old)
-            (O.faults out.new) result) }
+        (O.faults out.new) result) }
 {
     match check_words(alloc, words) {
         Ok(defines) => check_case(alloc, &defines, store, out, hooks),

@@ -106,7 +106,7 @@ fn end_run<S: Store, O: Sink, M: Meanings, F: Answering<M>>(
         (S.files store.old) (S.files store.new) (S.faults store.old) (S.faults store.new)
         (S.failed store.new)
         (λ status text. Said status text (O.taken out.old) (O.taken out.new) (O.faults out.old)
-            (O.faults out.new) result) }
+        (O.faults out.new) result) }
 {
     let names = match PointNames::new(alloc, &run.plan) {
         Ok(names) => names,
@@ -142,7 +142,7 @@ fn plain_case<S: Store, O: Sink, M: Meanings, F: Answering<M>>(
     ensures { PlainEnded (storing hooks.now M.answer) defines.now (S.files store.old)
         (S.files store.new) (S.faults store.old) (S.faults store.new) (S.failed store.new)
         (λ status text. Said status text (O.taken out.old) (O.taken out.new) (O.faults out.old)
-            (O.faults out.new) result) }
+        (O.faults out.new) result) }
 {
     match read_run(alloc, store, defines, hooks) {
         Ok(read) => end_run(alloc, read, store, out, hooks),
@@ -168,7 +168,7 @@ pub fn end_plain<S: Store, O: Sink, M: Meanings, F: Answering<M>>(
         (plain_words (map string_bytes words.now)) (S.files store.old) (S.files store.new)
         (S.faults store.old) (S.faults store.new) (S.failed store.new)
         (λ status text. Said status text (O.taken out.old) (O.taken out.new) (O.faults out.old)
-            (O.faults out.new) result) }
+        (O.faults out.new) result) }
 {
     match plain_words(alloc, words) {
         Ok(defines) => plain_case(alloc, &defines, store, out, hooks),

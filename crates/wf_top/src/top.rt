@@ -151,7 +151,7 @@ pub fn tool_main<R: Threads + Sync, S: Store, O: Sink, M: Meanings, F: Answering
         (S.files store.old) (S.files store.new) (S.faults store.old) (S.faults store.new)
         (S.failed store.new)
         (λ status text. Said status text (O.taken out.old) (O.taken out.new) (O.faults out.old)
-            (O.faults out.new) result) }
+        (O.faults out.new) result) }
 {
     if is_command("check", words) {
         end_check(alloc, words, store, out, hooks)
