@@ -1,6 +1,5 @@
 -- The sizes of files against their limit.
 use Rattle.std.proofs.Common.{◌≡◌, ℕ, ◌+◌, ◌-◌, ◌*◌, ◌/◌, ◌^◌, ◌<◌, ◌≤◌, true, false, Some, None, sym, ap, ◌∙◌, arith}
-use Rattle.std.proofs.Math.Nat.{mul-div_cancel}
 use Rattle.std.proofs.lemmas.Bool.Decides.{nat_tests}
 use Rattle.std.specs.Prelude.{nat_lt, min, pos, ◌==◌, slice_index, if◌then◌else◌}
 use Rattle.wf_model.specs.declared.plan.Plan.{Plan}
@@ -8,31 +7,20 @@ use Rattle.wf_model.specs.declared.header.Header.{Header}
 use Rattle.wf_model.specs.declared.plan_fault.PlanFault.TheVariants.{Limit}
 use Rattle.wf_model.specs.declared.plan_fault.Which.TheVariants as which
 use Rattle.wf_model.specs.Plans.{domain_of}
-use Rattle.wf_model.specs.Script.{not_before}
 use Rattle.wf_model.specs.Headers.{file_header}
 use Rattle.wf_model.specs.Sizes.{file_size, most_bytes}
 use Rattle.wf_model.specs.Counts.{file_records, stream_bytes, own_steps, due_steps}
 use Rattle.wf_model.specs.Reading.{fault_if}
 use Rattle.wf_model.specs.PlanTests.{file_fault}
-use Rattle.wf_plan_limits.specs.ScriptCount.{HasOneDomain}
-
--- the steps of the only domain are the run's
-own_steps-all : (plan : Plan) → HasOneDomain plan → own_steps plan 1 ≡ plan.steps
-own_steps-all plan single =
-    let whole : plan.steps * (domain_of plan 1).seconds - 0 ≡ plan.steps * (domain_of plan 1).seconds = omega arith in
-    (λ i. (plan.steps * (domain_of plan 1).seconds - not_before (single.begins i)) / (domain_of plan 1).seconds)
-    ∙ ap (λ (n : ℕ). n / (domain_of plan 1).seconds) whole
-    ∙ mul-div_cancel plan.steps single.seconds
 
 -- the records of a file of a stream that is not that of restart files
-pub records-of_stream : (plan : Plan) (stream : ℕ) (due frames : ℕ) → HasOneDomain plan → (stream ≡ 10 → ⊥)
-    → due ≡ due_steps (slice_index (domain_of plan 1).intervals stream) plan.steps → frames ≡ slice_index (domain_of plan 1).frames stream
-    → file_records plan 1 stream ≡ min frames (1 + due)
-records-of_stream plan stream due frames single other due_is frames_is =
+pub records-of_stream : (plan : Plan) (d stream due frames : ℕ) → (stream ≡ 10 → ⊥)
+    → due ≡ due_steps (slice_index (domain_of plan d).intervals stream) (own_steps plan d) → frames ≡ slice_index (domain_of plan d).frames stream
+    → file_records plan d stream ≡ min frames (1 + due)
+records-of_stream plan d stream due frames other due_is frames_is =
     let history : (stream == 10) ≡ false = grind (arith, nat_tests) in
-    (λ i. if history i then 1 else min (if history i then 1 else slice_index (domain_of plan 1).frames stream) (1 + due_steps (slice_index (domain_of plan 1).intervals stream) (own_steps plan 1)))
-    ∙ (λ i. min (sym frames_is i) (1 + due_steps (slice_index (domain_of plan 1).intervals stream) (own_steps-all plan single i)))
-    ∙ (λ i. min frames (1 + sym due_is i))
+    (λ i. if history i then 1 else min (if history i then 1 else slice_index (domain_of plan d).frames stream) (1 + due_steps (slice_index (domain_of plan d).intervals stream) (own_steps plan d)))
+    ∙ (λ i. min (sym frames_is i) (1 + sym due_is i))
 
 not-past : (m n m' n' : ℕ) → m' ≡ m → n' ≡ n → (m' < n' → ⊥) → nat_lt m n ≡ false
 not-past m n m' n' same_m same_n not = let most : n ≤ m = omega arith in grind (arith, nat_tests)
@@ -45,22 +33,22 @@ exact bytes size n same capped few = omega arith
 
 -- ---- a file within its limit, and one past it
 
-module _ (plan : Plan) (stream : ℕ) (h : Header) (records : ℕ) (header_is : h ≡ file_header plan 1 stream plan.start 0) (records_are : records ≡ file_records plan 1 stream) where
-  size-is : file_size h records ≡ stream_bytes plan 1 stream
+module _ (plan : Plan) (d stream : ℕ) (h : Header) (records : ℕ) (header_is : h ≡ file_header plan d stream plan.start 0) (records_are : records ≡ file_records plan d stream) where
+  size-is : file_size h records ≡ stream_bytes plan d stream
   size-is = λ i. file_size (header_is i) (records_are i)
 
   most-is : most_bytes h.version ≡ most_bytes plan.version
   unfolding file_header
   most-is = λ i. most_bytes (header_is i).version
 
-  pub within-fits : (most_bytes h.version < file_size h records → ⊥) → None ≡ file_fault plan 1 stream
+  pub within-fits : (most_bytes h.version < file_size h records → ⊥) → None ≡ file_fault plan d stream
   within-fits not_past =
-      let test : nat_lt (most_bytes plan.version) (stream_bytes plan 1 stream) ≡ false = not-past _ _ _ _ most-is size-is not_past in
-      sym (λ i. fault_if (test i) (Limit which.FileBytes (pos (stream_bytes plan 1 stream))))
+      let test : nat_lt (most_bytes plan.version) (stream_bytes plan d stream) ≡ false = not-past _ _ _ _ most-is size-is not_past in
+      sym (λ i. fault_if (test i) (Limit which.FileBytes (pos (stream_bytes plan d stream))))
 
   pub past-told : (bytes : ℕ) → most_bytes h.version < file_size h records → bytes ≡ min (file_size h records) (2 ^ 128 - 1) → bytes < 2 ^ 127
-      → Some (Limit which.FileBytes (pos bytes)) ≡ file_fault plan 1 stream
+      → Some (Limit which.FileBytes (pos bytes)) ≡ file_fault plan d stream
   past-told bytes past capped few =
-      let test : nat_lt (most_bytes plan.version) (stream_bytes plan 1 stream) ≡ true = is-past _ _ _ _ most-is size-is past in
+      let test : nat_lt (most_bytes plan.version) (stream_bytes plan d stream) ≡ true = is-past _ _ _ _ most-is size-is past in
       (λ i. Some (Limit which.FileBytes (pos (exact _ _ _ size-is capped few i))))
-      ∙ sym (λ i. fault_if (test i) (Limit which.FileBytes (pos (stream_bytes plan 1 stream))))
+      ∙ sym (λ i. fault_if (test i) (Limit which.FileBytes (pos (stream_bytes plan d stream))))

@@ -1,6 +1,4 @@
-pub mod Sums
 pub mod CellSums
-pub mod Due
-pub mod ScriptLength
+pub mod ScriptItems
 pub mod Stages
 pub mod FileSizes

@@ -15,7 +15,7 @@ use Rattle.wf_model.specs.PlanTests.{extent_fault, limit_faults}
 use Rattle.wf_model.specs.Counts.{script_items}
 use Rattle.wf_model.proofs.ReadingLemmas.{first_fault-append}
 use Rattle.wf_plan_limits.specs.LimitParts.{levels_limit, cells_limit, script_limit, files_of, size_faults, run_faults}
-use Rattle.wf_plan_limits.proofs.ScriptLength.{no-script}
+use Rattle.wf_plan_limits.proofs.ScriptItems.{no-script}
 
 -- a fault of the first stage stays
 pub stays : {F : Type 0} (fault first rest : Option F) → fault ≡ first → is_some fault ≡ true → fault ≡ option_or first rest
@@ -65,14 +65,28 @@ none_left test i n end =
     let count : n - i ≡ 0 = omega arith in
     λ k. first_fault (map test (range_with_len i (count k)))
 
+-- ---- lists of tests by number, from 1 up to n, of which some are behind
+
+abbrev pub first_left : {F : Type 0} → (ℕ → List (Option F)) → ℕ → ℕ → Option F
+first_left f i n = first_fault (flat_map f (range_with_len (i + 1) (n - i)))
+
+left_of : {F : Type 0} (f : ℕ → List (Option F)) (i n : ℕ) → i < n → first_left f i n ≡ option_or (first_fault (f (i + 1))) (first_left f (i + 1) n)
+left_of f i n less =
+    let count : n - i ≡ suc (n - (i + 1)) = omega arith in
+    ap (λ (k : ℕ). first_fault (flat_map f (range_with_len (i + 1) k))) count ∙ first_fault-append (f (i + 1)) (flat_map f (range_with_len (i + 1 + 1) (n - (i + 1))))
+
+pub met_at : {F : Type 0} (f : ℕ → List (Option F)) (i n : ℕ) (fault all : Option F)
+    → i < n → fault ≡ first_fault (f (i + 1)) → is_some fault ≡ true → first_left f i n ≡ all → fault ≡ all
+met_at f i n fault all less here some so_far = stays fault (first_fault (f (i + 1))) (first_left f (i + 1) n) here some ∙ sym (left_of f i n less) ∙ so_far
+
+pub passed_at : {F : Type 0} (f : ℕ → List (Option F)) (i n : ℕ) (fault all : Option F)
+    → i < n → fault ≡ first_fault (f (i + 1)) → is_some fault ≡ false → first_left f i n ≡ all → first_left f (i + 1) n ≡ all
+passed_at f i n fault all less here none so_far = goes_on fault (first_fault (f (i + 1))) (first_left f (i + 1) n) here none ∙ sym (left_of f i n less) ∙ so_far
+
 -- ---- the parts of the limits
 
 pub limit_faults-parts : (plan : Plan) (zs : List ℤ) → size_faults plan zs ++ run_faults plan ≡ limit_faults plan zs
 limit_faults-parts plan zs = append_assoc (levels_limit plan ∷ map extent_fault zs) (cells_limit plan ∷ []) (run_faults plan)
-
--- of a plan of one domain, its files are those of domain 1
-pub run_faults-one : (plan : Plan) → length plan.domains ≡ 1 → first_fault (run_faults plan) ≡ option_or (script_limit plan) (first_fault (files_of plan 1))
-run_faults-one plan one = λ i. option_or (script_limit plan) (first_fault (flat_map (files_of plan) (up_to (one i))))
 
 -- a plan without a domain has neither script nor files
 pub run_faults-none : (plan : Plan) → length plan.domains ≡ 0 → first_fault (run_faults plan) ≡ None

@@ -1,4 +1,3 @@
 pub mod CellCount
 pub mod FieldRanges
 pub mod LimitParts
-pub mod ScriptCount

@@ -1,7 +1,6 @@
 //! The cells of all whole domains and levels.
 
-ghost use Rattle.std.specs.Prelude.{◌≡◌, ◌+◌, ◌-◌, IfOk};
-ghost use Rattle.wf_model.specs.Plans.{extra};
+ghost use Rattle.std.specs.Prelude.{◌≡◌, ◌+◌, IfOk};
 ghost use Rattle.wf_model.specs.Counts.{all_cells};
 ghost use Rattle.wf_plan_limits.specs.CellCount.{level_cells, domain_cells};
 
@@ -18,20 +17,12 @@ pub(crate) fn plus(a: u128, b: u128) -> Result<u128, AllocError>
     }
 }
 
-/// The points in a direction: a staggered field has one more, but in a periodic direction.
-fn points(end: u32, staggered: bool, periodic: bool) -> u32
-    ensures { result ≡ end - 1 + extra staggered periodic }
-{
-    end.saturating_sub(1) + u32::from(staggered && !periodic)
-}
-
 /// The points of a level in a domain.
 fn level_cells(domain: &Domain, field: &Field) -> u128
     ensures { result ≡ level_cells domain.now field.now }
 {
-    let columns = points(domain.ide, field.stag_x, domain.periodic_x);
-    let rows = points(domain.jde, field.stag_y, domain.periodic_y);
-    u128::from(field.nz) * (u128::from(rows) * u128::from(columns))
+    let own = domain.extents(field);
+    u128::from(own.levels) * (u128::from(own.rows) * u128::from(own.columns))
 }
 
 /// The points of all levels in a domain.

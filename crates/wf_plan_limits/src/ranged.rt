@@ -5,10 +5,8 @@ ghost use Rattle.wf_model.specs.Letters.{is_name};
 ghost use Rattle.wf_model.specs.Ranges.{IsRangedField};
 ghost use Rattle.wf_plan_limits.specs.FieldRanges.{HasRangedLevels, HasNamedDims, HasRangedTexts};
 
+use wf_model::limits::EXTENT_IN_Z;
 use wf_model::{Field, Name};
-
-/// The most levels in z.
-const MOST_LEVELS: u32 = 128;
 
 /// The most bytes of a description, or of units.
 const MOST_TEXT: usize = 256;
@@ -20,7 +18,7 @@ const STREAM_BITS: u16 = 1024;
 fn has_ranged_levels(field: &Field) -> bool
     ensures { IsTrue result ↔ HasRangedLevels field.now }
 {
-    1 <= field.nz && field.nz <= MOST_LEVELS && (field.z || (field.nz == 1 && !field.stag_z))
+    1 <= field.nz && field.nz <= EXTENT_IN_Z && (field.z || (field.nz == 1 && !field.stag_z))
 }
 
 fn has_named_dims(field: &Field) -> bool
