@@ -38,7 +38,7 @@ struct RunParts {
 }
 
 /// Reads the texts of a run and then its input files.
-pub(crate) fn read_run<S: Store, M: Meanings, F: Answering<M>>(
+fn read_run<S: Store, M: Meanings, F: Answering<M>>(
     alloc: Global,
     store: &mut S,
     defines: &[(Name, Name)],
