@@ -13,13 +13,36 @@ use Rattle.wf_model.specs.Registry.{registry_of}
 use Rattle.wf_model.specs.Config.{config_of}
 use Rattle.wf_model.specs.NamesOf.{names_of}
 use Rattle.wf_model.specs.Table.{table_of}
-use Rattle.wf_model.specs.PlanOf.{plan_of}
+use Rattle.wf_model.specs.PlanOf.{plan_from, plan_of}
 use Rattle.wf_model.specs.Sound.{IsSoundPlan, IsRangedPlan, FilesFit, CallsHooks, HasHooks}
 use Rattle.wf_registry_laws.specs.HookLaws.{HasUsualArity}
 use Rattle.wf_model.specs.Hooks.{HasFewArguments}
 use Rattle.wf_table_laws.specs.ItemLaws.{CallsNothing}
+use Rattle.wf_plan_laws.specs.TestLaws.{PassesSoundTests}
 
--- what a plan keeps, where these are the stored functions
+-- what a plan of any number of domains keeps, where these are the stored functions
+pub record IsTestedPlan (hooks : List HookName) (plan : Plan) : Type 0 where
+  pub sound : IsSoundPlan plan
+  pub ranged : IsRangedPlan plan
+  pub files : FilesFit plan
+  pub calls : All (CallsHooks hooks) plan.items
+  pub functions : All HasUsualArity hooks → HasHooks hooks plan
+  pub no_calls : hooks ≡ [] → All CallsNothing plan.items
+
+-- what a Registry, a namelist and a table say, where no test but those of what isn't built fails,
+-- and calls have at most 8 arguments
+abbrev pub TestedPlansAreSound : Type 0
+TestedPlansAreSound =
+    (files : List SourceFile) (defines : Defines) (registry : Registry) (namelist : Namelist)
+    (config : Config) (hooks : List HookName)
+    (text : List ℕ) (items : List Item) (plan : Plan)
+    → registry_of files defines ≡ Ok registry → config_of registry namelist ≡ Ok config
+    → All HasFewArguments hooks
+    → table_of text (names_of config hooks) ≡ Ok items → plan_from config hooks items ≡ plan
+    → PassesSoundTests config plan
+    → IsTestedPlan hooks plan
+
+-- what an accepted plan keeps
 pub record IsAcceptedPlan (hooks : List HookName) (plan : Plan) : Type 0 where
   pub sound : IsSoundPlan plan
   pub ranged : IsRangedPlan plan

@@ -10,6 +10,12 @@ use Rattle.wf_model.specs.PlanOf.{plan_from, plan_of}
 use Rattle.wf_model.specs.PlanTests.{unbuilt_fault, unbuilt, domain_faults, read_faults}
 use Rattle.wf_model.specs.PlanTests.{limit_faults}
 
+-- of each group of tests but those of what isn't built none fails
+pub record PassesSoundTests (config : Config) (plan : Plan) : Type 0 where
+  pub domains : first_fault (domain_faults config plan) ≡ None
+  pub reads : first_fault (read_faults plan (z_extents config)) ≡ None
+  pub limits : first_fault (limit_faults plan (z_extents config)) ≡ None
+
 -- of each group of tests none fails
 pub record PassesTests (config : Config) (plan : Plan) : Type 0 where
   pub built : first_fault (map (unbuilt_fault config) unbuilt) ≡ None

@@ -5,7 +5,7 @@ ghost use Rattle.wf_plan_laws.specs.TestLaws.{PlansPassTheirTests};
 ghost use Rattle.wf_plan_laws.specs.ReadLaws.{ReadsAreSound};
 ghost use Rattle.wf_plan_laws.specs.PartLaws.{PhasesNameLevels, ItemsAreSound, FieldsAreSound};
 ghost use Rattle.wf_plan_laws.specs.PartLaws.{LimitsAreKept, DomainsAreCounted, DomainsAreSingle};
-ghost use Rattle.wf_plan_laws.specs.PlanLaws.{PlansWithHooksAreSound};
+ghost use Rattle.wf_plan_laws.specs.PlanLaws.{TestedPlansAreSound, PlansWithHooksAreSound};
 
 /// A plan that is given is what the config and the table say, and each group of its tests passes.
 pub fn plans_pass_their_tests()
@@ -47,6 +47,13 @@ pub fn domains_are_counted()
 /// Before nests are built a plan that is accepted has at most one domain.
 pub fn domains_are_single()
     ensures { DomainsAreSingle }
+{}
+
+/// What a Registry, a namelist and a table say is sound, its numbers are in their ranges, and its
+/// files keep within their sizes, for any number of domains, where no test of domains and times, of
+/// reads and of limits fails; calls are of stored functions.
+pub fn tested_plans_are_sound()
+    ensures { TestedPlansAreSound }
 {}
 
 /// A plan of a Registry, a namelist and a table that is accepted is sound, its numbers are in their
