@@ -1,5 +1,5 @@
 -- Parts of a domain's counts, by the data that they look at.
-use Rattle.std.specs.Prelude.{ℕ, ◌+◌, ◌-◌, ◌*◌, ◌/◌, ◌%◌, ◌^◌, ◌==◌, Bool, ◌&&◌, nat_le, List}
+use Rattle.std.specs.Prelude.{ℕ, ◌+◌, ◌-◌, ◌*◌, ◌/◌, ◌%◌, ◌^◌, ◌==◌, Bool, ◌&&◌, nat_le}
 use Rattle.std.specs.Prelude.{length, sum_by, if◌then◌else◌}
 use Rattle.std.specs.List.{list_all, range_with_len}
 use Rattle.wf_model.specs.declared.plan.Plan.{Plan}
@@ -9,11 +9,11 @@ use Rattle.wf_model.specs.Plans.{domain_of, domains_of}
 use Rattle.wf_model.specs.Script.{restart_stream}
 use Rattle.wf_model.specs.Streams.{one_if}
 use Rattle.wf_model.specs.Halves.{item_halves}
-use Rattle.wf_model.specs.Counts.{own_steps, more_restarts, more_events}
+use Rattle.wf_model.specs.Counts.{more_restarts, more_events}
 use Rattle.wf_model.specs.Weights.{begins_at, parent_seconds}
 use Rattle.wf_count_laws.specs.InTime.{is_in_time}
 use Rattle.wf_count_laws.specs.Occurrences.{frames_of_stream}
-use Rattle.wf_count_laws.specs.ByDomains.{domain_frames, domain_items, domain_events}
+use Rattle.wf_count_laws.specs.ByDomains.{domain_events}
 
 -- whether a stream holds a level of this field
 abbrev pub holds : ℕ → Field → Bool
@@ -63,11 +63,7 @@ stream_events plan patches d s = frames_of_stream plan d s * more_events plan pa
 abbrev pub frame_events_to : Plan → ℕ → ℕ → ℕ → ℕ
 frame_events_to plan patches d n = sum_by (stream_events plan patches d) (range_with_len 0 n)
 
--- the items of all domains, and what a restart adds
-abbrev pub items_by_domains : Plan → ℕ
-items_by_domains plan = sum_by (domain_items plan) (domains_of plan) + more_restarts plan
-
--- their events
+-- and of all domains, with what a restart adds
 abbrev pub events_by_domains : Plan → ℕ → ℕ
 events_by_domains plan patches = sum_by (domain_events plan patches) (domains_of plan)
     + more_restarts plan * more_events plan patches restart_stream

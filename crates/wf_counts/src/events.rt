@@ -1,7 +1,6 @@
 //! The events of a full run in which nothing overflows.
 
 ghost use Rattle.std.specs.Prelude.{◌≡◌, ◌≤◌, sum_by};
-ghost use Rattle.wf_model.specs.Patches.{Split};
 ghost use Rattle.wf_model.specs.Plans.{domains_of};
 ghost use Rattle.wf_model.specs.Sound.{IsDomain};
 ghost use Rattle.wf_model.specs.Counts.{all_events};

@@ -16,10 +16,10 @@ ghost use Rattle.wf_counts.specs.Parts.{frames_to};
 use crate::times::{
     begins_within, domain_at, due_steps as due_of, own_steps as steps_of, restart_count,
 };
-use wf_model::{Domain, Plan};
+use wf_model::{Domain, Plan, limits};
 
 /// The streams but for that of restart files.
-pub(crate) const STREAMS: usize = 10;
+pub(crate) const STREAMS: usize = limits::STREAMS as usize;
 
 /// The steps from one frame of a stream to the next, and 0 for never.
 fn interval(domain: &Domain, stream: usize) -> u64

@@ -1,11 +1,11 @@
 //! The test of what the counts ask of a plan's times.
 
-ghost use Rattle.std.specs.Prelude.{◌≡◌, ◌↔◌, ◌-◌, ◌*◌, ◌%◌, ◌==◌, ◌&&◌, IsTrue, length, nat_le};
+ghost use Rattle.std.specs.Prelude.{◌≡◌, ◌↔◌, ◌-◌, ◌*◌, ◌%◌, ◌==◌, ◌&&◌, IsTrue, length};
 ghost use Rattle.std.specs.List.{list_all, range_with_len};
 ghost use Rattle.wf_model.specs.Plans.{domain_of, domains_of};
 ghost use Rattle.wf_model.specs.Sound.{IsDomain};
 ghost use Rattle.wf_count_laws.specs.InTime.{are_in_time, is_in_time};
-ghost use Rattle.wf_model.specs.Weights.{HasDomainsInTime, parent_seconds};
+ghost use Rattle.wf_model.specs.Weights.{HasDomainsInTime};
 ghost use Rattle.wf_counts.specs.Parts.{all_in_time, begins_with_parent, fills_parent, has_seconds};
 
 use crate::times::{begins_at, domain_at, seconds_of};

@@ -1,11 +1,11 @@
 //! Times of domains, in seconds from domain 1's start, and their numbers of steps.
 
-ghost use Rattle.std.specs.Prelude.{◌≡◌, ◌/◌, ◌<◌, ◌^◌};
+ghost use Rattle.std.specs.Prelude.{◌≡◌, ◌/◌, ◌<◌};
 ghost use Rattle.wf_model.specs.Plans.{domain_of};
 ghost use Rattle.wf_model.specs.Script.{not_before};
 ghost use Rattle.wf_model.specs.Sound.{IsDomain};
 ghost use Rattle.wf_model.specs.Counts.{due_steps, own_steps};
-ghost use Rattle.wf_model.specs.Weights.{begins_at, parent_seconds, parent_steps, restart_count};
+ghost use Rattle.wf_model.specs.Weights.{begins_at, parent_steps, restart_count};
 ghost use Rattle.wf_model.specs.Weights.{run_seconds};
 ghost use Rattle.wf_count_laws.specs.Occurrences.{begins_within};
 

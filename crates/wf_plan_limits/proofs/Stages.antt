@@ -14,7 +14,7 @@ use Rattle.wf_model.specs.Reading.{fault_if, first_fault}
 use Rattle.wf_model.specs.PlanTests.{extent_fault, limit_faults}
 use Rattle.wf_model.specs.Counts.{script_items}
 use Rattle.wf_model.proofs.ReadingLemmas.{first_fault-append}
-use Rattle.wf_plan_limits.specs.LimitParts.{levels_limit, cells_limit, script_limit, files_of, size_faults, run_faults}
+use Rattle.wf_plan_limits.specs.LimitParts.{levels_limit, cells_limit, files_of, size_faults, run_faults}
 use Rattle.wf_plan_limits.proofs.ScriptItems.{no-script}
 
 -- a fault of the first stage stays

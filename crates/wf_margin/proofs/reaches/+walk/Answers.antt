@@ -1,5 +1,5 @@
 -- Each arm of the walk: its operands are smaller, and the greatest of their reaches is the expression's.
-use Rattle.std.proofs.Common.{◌≡◌, [], ◌∷◌, ◌++◌, max, refl, to_z, of_z, sym, ap, ap₂, ◌∙◌, arith, rules}
+use Rattle.std.proofs.Common.{◌≡◌, [], ◌∷◌, ◌++◌, max, to_z, of_z, sym, ap, ap₂, ◌∙◌, arith, rules}
 use Rattle.std.specs.Prelude.{FitsSigned}
 use Rattle.std.proofs.lemmas.Int.{to_z-of_z}
 use mir.Syntax.{w32}
