@@ -4,4 +4,5 @@
 mod planning;
 
 pub use planning::plan;
+pub use wf_layout::layout;
 pub use wf_plan_domains::PlanError;

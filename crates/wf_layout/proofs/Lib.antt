@@ -1,0 +1,4 @@
+pub mod Memories
+pub mod FirstFound
+pub mod Countable
+pub mod Answered
