@@ -9,6 +9,7 @@ use Rattle.wf_model.specs.Reads.{margin_of}
 use Rattle.wf_model.specs.Patches.{own_box, memory_box}
 use Rattle.wf_model.specs.Halves.{halves_of}
 use Rattle.wf_model.specs.Counts.{fresh_script}
+use Rattle.wf_model.specs.Frames.{frames_of, frames_from, outputs_from}
 use Rattle.wf_model.specs.PlanOf.{layout_faults}
 use Rattle.wf_model.specs.Weights.{HasDomainsInTime}
 use Rattle.wf_count_laws.proofs.InTime.{tested}
@@ -23,7 +24,7 @@ unfolding domain_of
 three_in_time = (tested three).0 refl
 
 pub three_domains : ThreeDomains
-unfolding domain_of field_of item_of begin_of children step_of script_of stream_levels halves_of fresh_script
+unfolding domain_of field_of item_of begin_of children step_of script_of stream_levels halves_of fresh_script frames_of frames_from outputs_from
 three_domains = record {
   in_time = three_in_time;
   items = refl;
@@ -31,10 +32,13 @@ three_domains = record {
   items_of_the_second = refl;
   items_of_the_third = refl;
   frames = refl;
+  frames_of_domains = refl;
   events = refl;
   events_of_the_first = refl;
   events_of_the_second = refl;
   events_of_the_third = refl;
+  items_of_restart = refl;
+  events_of_restart = refl;
 }
 
 pub layout_refusals : LayoutRefusals

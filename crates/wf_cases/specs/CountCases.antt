@@ -1,5 +1,6 @@
 -- Worked cases of what is counted before a run.
-use Rattle.std.specs.Prelude.{ℕ, ◌≡◌, true, false, List, ◌∷◌, [], ℤ, pos, codes, Some, None, sum_by}
+use Rattle.std.specs.Prelude.{ℕ, ◌≡◌, true, false, List, length, ◌∷◌, [], ℤ, pos, codes, Some, None}
+use Rattle.std.specs.Prelude.{sum_by}
 use Rattle.wf_model.specs.declared.plan.Plan.{Plan}
 use Rattle.wf_model.specs.declared.plan.Domain.{Domain}
 use Rattle.wf_model.specs.declared.plan.Field.{Field}
@@ -10,6 +11,8 @@ use Rattle.wf_model.specs.declared.plan_fault.LayoutFault.TheVariants.{TooManyPa
 use Rattle.wf_model.specs.Reading.{first_fault}
 use Rattle.wf_model.specs.Patches.{split_of}
 use Rattle.wf_model.specs.Counts.{all_cells, memory_cells, script_items, stream_bytes, all_events}
+use Rattle.wf_model.specs.Counts.{fresh_run}
+use Rattle.wf_model.specs.Frames.{frames_of}
 use Rattle.wf_model.specs.PlanOf.{layout_faults}
 use Rattle.wf_model.specs.Plans.{domains_of}
 use Rattle.wf_model.specs.Weights.{HasDomainsInTime}
@@ -85,12 +88,17 @@ pub record ThreeDomains : Type 0 where
   pub items_of_the_second : domain_items three 2 ≡ 22
   -- 10 halos, 11 frames, a restart frame, a start, 5 forces and 5 feedbacks
   pub items_of_the_third : domain_items three 3 ≡ 33
-  pub frames : sum_by (domain_frames three) (domains_of three) ≡ 23
+  pub frames : length (frames_of (fresh_run three)) ≡ 23
+  pub frames_of_domains : sum_by (domain_frames three) (domains_of three) ≡ 23
   -- 4 patches: a halo and a nest item are 8 events, a frame 9
   pub events : all_events three (split_of (patches 2 2)) ≡ 527
   pub events_of_the_first : domain_events three 4 1 ≡ 69
   pub events_of_the_second : domain_events three 4 2 ≡ 182
   pub events_of_the_third : domain_events three 4 3 ≡ 276
+  -- a restart has one restart frame more of each domain
+  pub items_of_restart : script_items (record three { restart = true }) ≡ 66
+  pub events_of_restart : all_events (record three { restart = true })
+      (split_of (patches 2 2)) ≡ 554
 
 pub record LayoutRefusals : Type 0 where
   pub columns : first_fault (layout_faults demo (columns_layout 4)) ≡ Some (TooManyPatches 1 4)

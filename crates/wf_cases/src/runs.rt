@@ -6,6 +6,7 @@ ghost use Rattle.wf_cases.specs.RunCases.{PeriodicGrid, FarGrid, RunOfNoLength, 
 ghost use Rattle.wf_cases.specs.RunCases.{FileNames, RelaxHook, StaggeredExtraPoint};
 ghost use Rattle.wf_cases.specs.RunCases.{StreamWithoutFields};
 ghost use Rattle.wf_cases.specs.CountCases.{Counts, ThreeDomains, LayoutRefusals};
+ghost use Rattle.wf_cases.specs.GreatestCases.{GreatestMemories, GreatestEvents, GreatestScripts};
 ghost use Rattle.wf_cases.specs.RestartCases.{RestartTimes};
 ghost use Rattle.wf_cases.specs.EventCases.{EventsInOrder, HaloMemories};
 
@@ -115,6 +116,24 @@ pub fn layout_refusals()
 #[tactic(auto, using(crate::proofs::CountCases::three_domains))]
 pub fn three_domains()
     ensures { ThreeDomains }
+{}
+
+/// As many patches, tiles and cells of memories as there may be, and one past each.
+#[tactic(auto, using(crate::proofs::GreatestCases::memories))]
+pub fn greatest_memories()
+    ensures { GreatestMemories }
+{}
+
+/// As many events as there may be, and too many.
+#[tactic(auto, using(crate::proofs::GreatestCases::events))]
+pub fn greatest_events()
+    ensures { GreatestEvents }
+{}
+
+/// As many items of the script of eight domains as there may be, and one more.
+#[tactic(auto, using(crate::proofs::GreatestCases::scripts))]
+pub fn greatest_scripts()
+    ensures { GreatestScripts }
 {}
 
 /// Three steps with a restart after each.
