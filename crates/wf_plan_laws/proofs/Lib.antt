@@ -7,3 +7,5 @@ pub mod Levels
 pub mod Limits
 pub mod Single
 pub mod Plans
+pub mod DayCounts
+pub mod StartTimes

@@ -6,6 +6,7 @@ ghost use Rattle.wf_plan_laws.specs.ReadLaws.{ReadsAreSound};
 ghost use Rattle.wf_plan_laws.specs.PartLaws.{PhasesNameLevels, ItemsAreSound, FieldsAreSound};
 ghost use Rattle.wf_plan_laws.specs.PartLaws.{LimitsAreKept, DomainsAreCounted, DomainsAreSingle};
 ghost use Rattle.wf_plan_laws.specs.PlanLaws.{TestedPlansAreSound, PlansWithHooksAreSound};
+ghost use Rattle.wf_plan_laws.specs.StartTimes.{DomainsStartInTime};
 
 /// A plan that is given is what the config and the table say, and each group of its tests passes.
 pub fn plans_pass_their_tests()
@@ -42,6 +43,12 @@ pub fn limits_are_kept()
 /// A plan has as many domains as `max_dom` says.
 pub fn domains_are_counted()
     ensures { DomainsAreCounted }
+{}
+
+/// Where the values of a config are in their ranges and no test of domains and times fails, each
+/// domain of its plan starts within the years 1 to 9999, however many there are.
+pub fn domains_start_in_time()
+    ensures { DomainsStartInTime }
 {}
 
 /// Before nests are built a plan that is accepted has at most one domain.
