@@ -1,4 +1,4 @@
--- The greatest numbers that limits let pass, and one past each.
+-- The greatest numbers that limits let pass, and numbers past them.
 use Rattle.std.specs.Prelude.{ℕ, ◌≡◌, true, false, List, [], ◌∷◌, pos, codes, map, Some, None}
 use Rattle.std.specs.List.{range_with_len}
 use Rattle.wf_model.specs.declared.plan.Plan.{Plan}
@@ -49,7 +49,7 @@ pub record GreatestMemories : Type 0 where
   pub columns_past : first_fault (layout_faults (memories 20) (tiled 21 1 1))
       ≡ Some (layout.TooManyPatches 1 21)
 
--- ---- events: a swap of each of 250 patches in each step
+-- ---- events: in each step a swap of each of 250 patches
 
 -- no frames
 abbrev pub never : List ℕ
@@ -79,7 +79,8 @@ nest parent intervals = record (case_domain 3 3) {
   intervals = intervals;
 }
 
--- a frame of so many streams after each step of domain 1, and the intervals of the last domain
+-- three streams of domain 1 have a frame at its start and after each step; the last domain has its
+-- frames at these intervals
 abbrev pub eight : List ℕ → Plan
 eight last = record (case_plan 3 3 11111 (case_field (codes "a") (codes "A"))
     (map (λ n. item.Halo []) (range_with_len 0 10))) {

@@ -118,7 +118,7 @@ pub fn three_domains()
     ensures { ThreeDomains }
 {}
 
-/// As many patches, tiles and cells of memories as there may be, and one past each.
+/// As many patches, tiles and cells of memories as there may be, and too many.
 #[tactic(auto, using(crate::proofs::GreatestCases::memories))]
 pub fn greatest_memories()
     ensures { GreatestMemories }

@@ -109,8 +109,9 @@ fn layout_fault(plan: &Plan, layout: &Layout) -> Option<LayoutFault>
 /// - for each domain, numbered from 1: more patches in x than the domain has points there, which
 ///   is one fewer than e_we; more in y than points there; more than 256 in all;
 /// - more than 64 tiles of a patch;
-/// - more than 150,000,000 cells of the memories of all patches of all domains, each its patch's
-///   own points and as many more around them as the plan's items reach;
+/// - more than 150,000,000 cells of the memories of all patches of all domains: of each field level
+///   a patch's own points, and as many more on each side as the plan's items reach, which end where
+///   a direction ends that isn't periodic;
 /// - more than 20,000,000 events of a full run in which no domain resumes and nothing overflows:
 ///   of each patch its halves of items, of each piece a gathering, and of each frame a writing.
 ///
