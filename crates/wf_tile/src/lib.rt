@@ -16,5 +16,4 @@ mod threads;
 mod turn;
 
 pub use kernel::Kernel;
-pub use least::stops_are_least;
 pub use run::run_tiles;
