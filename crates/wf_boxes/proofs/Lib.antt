@@ -1,0 +1,4 @@
+pub mod Ends
+pub mod Placing
+pub mod Laid
+pub mod Wrapping
