@@ -1,6 +1,6 @@
 //! Boxes of patches.
 
-ghost use Rattle.std.specs.Prelude.{◌≡◌, ℕ, ◌+◌, ◌-◌, ◌*◌, ◌<◌, ◌≤◌, ◌^◌, pos, ◌≤ℤ◌};
+ghost use Rattle.std.specs.Prelude.{◌≡◌, ◌+◌, ◌-◌, ◌<◌, ◌≤◌};
 ghost use Rattle.wf_model.specs.Patches.{split_of, block, cut_unless, grown, own_box, reached_box};
 ghost use Rattle.wf_model.specs.Patches.{memory_box};
 ghost use Rattle.wf_model.specs.Sound.{IsLevel};
