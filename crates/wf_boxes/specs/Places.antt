@@ -7,6 +7,10 @@ use Rattle.wf_model.specs.Patches.{Split, size_of, memory_box}
 use Rattle.wf_boxes.specs.declared.places.LevelBox.{LevelBox}
 use Rattle.wf_boxes.specs.Boxes.{IsNear}
 
+-- no larger than the box of a level may be
+abbrev pub IsNarrow : LevelBox → Type 0
+IsNarrow s = (s.rows ≤ 2 ^ 15) × (s.columns ≤ 2 ^ 15) × (s.levels ≤ 128)
+
 -- the cells that a patch keeps of a level, and the points of the level in the domain
 pub record IsLevelBox (plan : Plan) (split : Split) (d p f : ℕ) (s : LevelBox) : Type 0 where
   pub south : s.south ≡ (memory_box plan split d p f).y.low
@@ -20,7 +24,7 @@ pub record IsLevelBox (plan : Plan) (split : Split) (d p f : ℕ) (s : LevelBox)
   pub periodic_x : s.periodic_x ≡ (domain_of plan d).periodic_x
   pub periodic_y : s.periodic_y ≡ (domain_of plan d).periodic_y
   pub near : IsNear s.south × IsNear s.west
-  pub narrow : (s.rows ≤ 2 ^ 15) × (s.columns ≤ 2 ^ 15) × (s.levels ≤ 128)
+  pub narrow : IsNarrow s
 
 -- how many cells it has
 abbrev pub cells_of : LevelBox → ℕ

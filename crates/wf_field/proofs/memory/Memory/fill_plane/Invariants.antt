@@ -1,0 +1,10 @@
+use Rattle.wf_model.specs.Patches.{split_of}
+use Rattle.wf_field.specs.Settings.{IsSamePatch, point_number}
+use Rattle.wf_field.specs.Rows.{SetsKept, box_rows}
+use Rattle.wf_field.proofs.memory.Memory.fill_plane.Given as goal
+
+abbrev pub invariant-loop-y : goal.invariant-loop-y
+invariant-loop-y g l = record {
+  same : IsSamePatch l.fn.self l.self;
+  set : SetsKept g.N.RunName.run.plan (split_of g.N.RunName.layout) l.fn.self.domain l.fn.self.patch (point_number g.N.RunName.run.plan l.fn.self.domain l.field l.values) (box_rows l.field l.bounds l.k l.y) l.fn.self.levels l.self.levels;
+}

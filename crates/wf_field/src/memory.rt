@@ -1,0 +1,301 @@
+//! The memory of a patch.
+
+ghost use Rattle.std.specs.Prelude.{◌≡◌, ℕ, ◌+◌, ◌-◌, ◌*◌, ◌<◌, ◌≤◌, All, IfOk, flat_map, fold};
+ghost use Rattle.std.specs.Prelude.{length, pos, ◌+ℤ◌};
+ghost use Rattle.wf_rect.specs.Tiles.{rows_of};
+ghost use Rattle.wf_boxes.specs.Boxes.{HasNearEnds, IsWide};
+ghost use Rattle.wf_boxes.specs.Places.{IsLevelBox};
+ghost use Rattle.wf_model.specs.Patches.{split_of, kept_at};
+ghost use Rattle.wf_model.specs.Plans.{field_of, nx, ny, nz};
+ghost use Rattle.wf_model.specs.PatchEffect.{swap_setting};
+ghost use Rattle.wf_model.specs.Sound.{IsDomain, IsLevel, IsSoundLayout};
+ghost use Rattle.wf_model.specs.SoundRun.{IsSoundRun};
+ghost use Rattle.wf_model.specs.Agreement.{IsPatch, IsOwnCell};
+ghost use Rattle.wf_model.specs.Kept.{IsSoundPatch, IsKeptCell};
+ghost use Rattle.wf_model.specs.Kept.{ShowsMemory, SetsExactly};
+ghost use Rattle.wf_field.specs.Settings.{IsSamePatch, cell_at, cell_setting, level_setting};
+ghost use Rattle.wf_field.specs.Settings.{point_number};
+ghost use Rattle.wf_field.specs.Sources.{points_of};
+ghost use Rattle.wf_field.specs.Rows.{SetsKept, cells_setting, plane_cells, box_rows, region_cells};
+ghost use Rattle.wf_field.specs.Rows.{region_number, row_cells, row_number};
+
+use crate::making::{level_boxes, zero_levels};
+use crate::numbers::{number_in, put_in};
+use crate::rows::{moved, part, put_row_in};
+use crate::sources::{column, row};
+use crate::sums::{count_cells, sum_levels};
+use std::alloc::{AllocError, Global};
+use std::marker::{Model, PhantomData};
+use wf_boxes::{Patch, LevelBox, count};
+use wf_model::{Layout, List, Plan, RunName};
+use wf_rect::Region;
+
+/// The numbers of all field levels that a patch keeps: at its own points, and at the cells around
+/// them as far as the margin of the plan, which in a periodic direction lie outside the domain.
+/// Contracts see the patch and the lists of its levels, each in order k, j, i.
+#[derive(Drop)]
+pub struct Memory<N: RunName> {
+    domain: u32,
+    patch: u32,
+    boxes: List<LevelBox>,
+    levels: List<List<i32>>,
+    of: PhantomData<N>,
+}
+
+impl<N: RunName> Model for Memory<N> {
+    ghost use Rattle.wf_field.specs.Kept.{KeptMemory, IsMemory};
+
+    ghost Value = { KeptMemory };
+
+    ghost view = { λ m. record { domain = m.domain; patch = m.patch; levels = m.levels } };
+
+    ghost invariant = { λ m. IsMemory N.run.plan N.layout m.domain m.patch m.boxes m.levels };
+}
+
+impl<N: RunName> Memory<N> {
+    /// A memory of a patch whose numbers are all 0. It takes all memory that it needs.
+    ///
+    /// Domains count from 1, patches from 0.
+    pub fn new(
+        alloc: Global,
+        plan: &Plan,
+        layout: &Layout,
+        domain: u32,
+        patch: u32,
+    ) -> Result<Memory<N>, AllocError>
+        requires plan { plan.now ≡ N.run.plan }
+        requires layout { layout.now ≡ N.layout }
+        requires sound { IsSoundRun N.run }
+        requires laid { IsSoundLayout N.run.plan N.layout }
+        requires domain { IsDomain N.run.plan domain }
+        requires patch { IsPatch N.layout patch }
+        ensures domain { IfOk result (λ m. m.domain ≡ domain) }
+        ensures patch { IfOk result (λ m. m.patch ≡ patch) }
+        ensures zeros { IfOk result (λ m.
+            ShowsMemory N.run.plan (split_of N.layout) domain patch m.levels (λ f k j i. pos 0)) }
+    {
+        let place = Patch {
+            plan,
+            layout,
+            domain,
+            number: patch,
+        };
+        let boxes = level_boxes(alloc, &place)?;
+        let levels = zero_levels(alloc, boxes.as_slice())?;
+        Ok(Memory {
+            domain,
+            patch,
+            boxes: List::from_vec(boxes),
+            levels: List::from_vec(levels),
+            of: PhantomData,
+        })
+    }
+
+    /// Its domain, from 1.
+    pub fn domain(&self) -> u32
+        ensures value { result ≡ self.now.domain }
+        ensures sound { IsSoundPatch N.run.plan N.layout self.now.domain self.now.patch }
+    {
+        self.domain
+    }
+
+    /// Its patch, from 0.
+    pub fn patch(&self) -> u32
+        ensures value { result ≡ self.now.patch }
+        ensures shown { ShowsMemory N.run.plan
+            (split_of N.layout) self.now.domain self.now.patch self.now.levels (kept_at N.run.plan
+            (split_of N.layout) self.now.domain self.now.patch self.now.levels) }
+    {
+        self.patch
+    }
+
+    /// The number of a cell: of a level, from 0, at k, j and i, from 1 in the domain.
+    pub fn get(&self, field: u32, k: u32, j: i64, i: i64) -> i32
+        requires { IsKeptCell N.run.plan (split_of N.layout) self.now.domain self.now.patch
+            (cell_at field k j i) }
+        ensures { result ≡ kept_at N.run.plan
+            (split_of N.layout) self.now.domain self.now.patch self.now.levels field k j i }
+    {
+        number_in(
+            self.boxes.as_slice(),
+            self.levels.as_slice(),
+            field,
+            k,
+            j,
+            i,
+        )
+    }
+
+    /// Sets the number of an own cell, and no other one.
+    pub fn set_own(&mut self, field: u32, k: u32, j: i64, i: i64, value: i32)
+        requires level { IsLevel N.run.plan field }
+        requires own { IsOwnCell N.run.plan (split_of N.layout) self.old.domain self.old.patch
+            (cell_at field k j i) }
+        ensures same { IsSamePatch self.old self.new }
+        ensures set { SetsExactly N.run.plan (split_of N.layout) self.old.domain self.old.patch
+            (cell_setting (cell_at field k j i) value) self.old.levels self.new.levels }
+    {
+        put_in(
+            self.boxes.as_slice(),
+            self.levels.as_mut_slice(),
+            field,
+            k,
+            j,
+            i,
+            value,
+        );
+    }
+
+    /// Sets as many cells of a row of a level as there are numbers, from one on, and no others.
+    pub fn set_row(&mut self, field: u32, k: u32, j: i64, i: i64, values: &[i32])
+        requires level { IsLevel N.run.plan field }
+        requires row { All (IsKeptCell N.run.plan (split_of N.layout) self.old.domain
+            self.old.patch) (row_cells field k j i (length values.now)) }
+        ensures same { IsSamePatch self.old self.new }
+        ensures set { SetsKept N.run.plan (split_of N.layout) self.old.domain self.old.patch
+            (row_number i values.now)
+            (row_cells field k j i (length values.now)) self.old.levels self.new.levels }
+    {
+        if values.is_empty() {
+            return;
+        }
+        put_row_in(
+            self.boxes.as_slice(),
+            self.levels.as_mut_slice(),
+            field,
+            k,
+            j,
+            i,
+            values,
+        );
+    }
+
+    /// Sets the cells of a plane of a region to their numbers.
+    fn commit_plane(&mut self, field: u32, region: Region, a: u32, scratch: &[i32])
+        requires level { IsLevel N.run.plan field }
+        requires plane { a < region.k1 - region.k0 }
+        requires near { HasNearEnds region.rect }
+        requires cells { All (IsKeptCell N.run.plan
+            (split_of N.layout) self.old.domain self.old.patch) (region_cells field region) }
+        requires scratch { length (region_cells field region) ≤ length scratch.now }
+        ensures same { IsSamePatch self.old self.new }
+        ensures set { SetsKept N.run.plan (split_of N.layout) self.old.domain self.old.patch
+            (region_number region scratch.now) (plane_cells field (region.k0 + a) region.rect
+            (rows_of region.rect)) self.old.levels self.new.levels }
+    {
+        let rect = region.rect;
+        let rows = count(rect.j0, rect.j1);
+        let columns = count(rect.i0, rect.i1) as usize;
+        for y in 0..rows {
+            let from = (a as usize * rows as usize + y as usize) * columns;
+            let row = part(scratch, from, columns);
+            self.set_row(field, region.k0 + a, moved(rect.j0, y), rect.i0, row);
+        }
+    }
+
+    /// Sets the cells of a region of a level to the first numbers of the scratch, in order k, j, i,
+    /// and no others.
+    pub fn commit(&mut self, field: u32, region: Region, scratch: &[i32])
+        requires level { IsLevel N.run.plan field }
+        requires near { HasNearEnds region.rect }
+        requires cells { All (IsKeptCell N.run.plan
+            (split_of N.layout) self.old.domain self.old.patch) (region_cells field region) }
+        requires scratch { length (region_cells field region) ≤ length scratch.now }
+        ensures same { IsSamePatch self.old self.new }
+        ensures set { SetsExactly N.run.plan (split_of N.layout) self.old.domain self.old.patch
+            (cells_setting (region_number region scratch.now) (region_cells field region))
+            self.old.levels self.new.levels }
+    {
+        for a in 0..region.k1.saturating_sub(region.k0) {
+            self.commit_plane(field, region, a, scratch);
+        }
+    }
+
+    /// Sets the cells of a row of a level to the numbers of the points that they stand for.
+    fn fill_row(&mut self, field: u32, bounds: &LevelBox, k: u32, j: i64, values: &[i32])
+        requires sound { IsSoundPatch N.run.plan N.layout self.old.domain self.old.patch }
+        requires level { IsLevel N.run.plan field }
+        requires bounds { IsLevelBox N.run.plan
+            (split_of N.layout) self.old.domain self.old.patch field bounds.now }
+        requires values { length values.now ≡ points_of bounds.now }
+        requires wide { IsWide j }
+        requires row { All (IsKeptCell N.run.plan (split_of N.layout) self.old.domain
+            self.old.patch) (row_cells field k j bounds.now.west bounds.now.columns) }
+        ensures same { IsSamePatch self.old self.new }
+        ensures set { SetsKept N.run.plan (split_of N.layout) self.old.domain self.old.patch
+            (point_number N.run.plan self.old.domain field values.now) (row_cells field k j
+            bounds.now.west bounds.now.columns) self.old.levels self.new.levels }
+    {
+        let mut x = 0;
+        while x < bounds.columns {
+            let start = row(bounds, k, j);
+            let i = moved(bounds.west, x);
+            let first = column(bounds, i);
+            let count = (bounds.columns - x).min(bounds.width - first);
+            let run = part(values, start + first as usize, count as usize);
+            self.set_row(field, k, j, i, run);
+            x += count;
+        }
+    }
+
+    /// Sets the cells of a plane of a level so.
+    fn fill_plane(&mut self, field: u32, bounds: &LevelBox, k: u32, values: &[i32])
+        requires sound { IsSoundPatch N.run.plan N.layout self.old.domain self.old.patch }
+        requires level { IsLevel N.run.plan field }
+        requires bounds { IsLevelBox N.run.plan
+            (split_of N.layout) self.old.domain self.old.patch field bounds.now }
+        requires values { length values.now ≡ points_of bounds.now }
+        requires plane { (1 ≤ k) × (k ≤ bounds.now.levels) }
+        ensures same { IsSamePatch self.old self.new }
+        ensures set { SetsKept N.run.plan (split_of N.layout) self.old.domain self.old.patch
+            (point_number N.run.plan self.old.domain field values.now)
+            (box_rows field bounds.now k bounds.now.rows) self.old.levels self.new.levels }
+    {
+        for y in 0..bounds.rows {
+            self.fill_row(field, bounds, k, moved(bounds.south, y), values);
+        }
+    }
+
+    /// Sets all cells of a level, wrapped ones included, to the numbers of the points that they
+    /// stand for, of which these are the whole domain's in order k, j, i.
+    pub fn fill(&mut self, field: u32, values: &[i32])
+        requires level { IsLevel N.run.plan field }
+        requires values { length values.now ≡ nz N.run.plan field
+            * (ny N.run.plan self.old.domain field * nx N.run.plan self.old.domain field) }
+        ensures same { IsSamePatch self.old self.new }
+        ensures set { SetsExactly N.run.plan (split_of N.layout) self.old.domain self.old.patch
+            (level_setting N.run.plan self.old.domain field values.now) self.old.levels
+            self.new.levels }
+    {
+        let bounds = self.boxes.as_slice()[field as usize];
+        for k in 0..bounds.levels {
+            self.fill_plane(field, &bounds, k + 1, values);
+        }
+    }
+
+    /// Exchanges the two levels of a field, whole memories.
+    pub fn swap(&mut self, one: u32, two: u32)
+        requires level { IsLevel N.run.plan one }
+        requires pair { (field_of N.run.plan one).pair ≡ two }
+        ensures same { IsSamePatch self.old self.new }
+        ensures set { SetsExactly N.run.plan (split_of N.layout) self.old.domain self.old.patch
+            (swap_setting one two (kept_at N.run.plan (split_of N.layout) self.old.domain
+            self.old.patch self.old.levels)) self.old.levels self.new.levels }
+    {
+        self.levels.as_mut_slice().swap(one as usize, two as usize);
+    }
+
+    /// How many cells it has.
+    pub fn cells(&self) -> u64
+        ensures { result ≡ length (flat_map (λ xs. xs) self.now.levels) }
+    {
+        count_cells(self.levels.as_slice())
+    }
+
+    /// The sum of all its numbers.
+    pub fn sum(&self) -> i128
+        ensures { result ≡ fold ◌+ℤ◌ (pos 0) (flat_map (λ xs. xs) self.now.levels) }
+    {
+        sum_levels(self.levels.as_slice())
+    }
+}
