@@ -11,7 +11,7 @@ use Rattle.wf_laws.proofs.Members.{In, In-list_any}
 use Rattle.wf_laws.proofs.Bools.{split_bool}
 use Rattle.wf_laws.proofs.Fetch.{same_cell-equal}
 use Rattle.wf_model.specs.Kept.{SetsExactly}
-use Rattle.wf_field.specs.Rows.{SetsKept, cells_setting}
+use Rattle.wf_field.specs.Rows.{SetsKept}
 
 -- the numbers from a on, and one more
 pub range_more : (a n : ℕ) → range_with_len a (n + 1) ≡ range_with_len a n ++ (a + n) ∷ []
@@ -70,10 +70,6 @@ module _ (plan : Plan) (split : Split) (d p : ℕ) where
   -- the same cells by another list
   pub cells_kept : (v : Cell → ℤ) (cs ds : List Cell) (a b : List (List ℤ)) → cs ≡ ds → SetsKept plan split d p v cs a b → SetsKept plan split d p v ds a b
   cells_kept v cs ds a b e h = subst (λ (xs : List Cell). SetsKept plan split d p v xs a b) e h
-
-  -- as a setting
-  pub exactly_kept : (v : Cell → ℤ) (cs : List Cell) (a b : List (List ℤ)) → SetsKept plan split d p v cs a b → SetsExactly plan split d p (cells_setting v cs) a b
-  exactly_kept v cs a b h = record { levels = h.levels; sizes = λ f l. h.sizes f; numbers = h.numbers }
 
 -- of the same patch
 pub kept_patch : {plan : Plan} {split : Split} {d e p q : ℕ} {v : Cell → ℤ} {cs : List Cell} {a b : List (List ℤ)} → d ≡ e → p ≡ q → SetsKept plan split d p v cs a b → SetsKept plan split e q v cs a b

@@ -18,7 +18,7 @@ use Rattle.wf_model.specs.Kept.{IsKeptCell}
 use Rattle.wf_model.specs.Kept.{level_kept, kept_place, SetsExactly}
 use Rattle.wf_field.specs.Kept.{IsMemory, IsLevelOf, box_at}
 use Rattle.wf_field.specs.Settings.{cell_at}
-use Rattle.wf_field.specs.Rows.{with_row, row_cells, row_number, number_of, IsBoxCell, SetsCells, SetsKept, cells_setting}
+use Rattle.wf_field.specs.Rows.{with_row, row_cells, row_number, number_of, IsBoxCell, SetsCells, SetsKept}
 use Rattle.wf_field.proofs.Finding.{level_of, kept_cell, box_of, place_is}
 use Rattle.wf_field.proofs.RowsPut.{row_set}
 

@@ -15,7 +15,8 @@ use Rattle.wf_rect.specs.Tiles.{count_between, rows_of}
 use Rattle.wf_boxes.proofs.Placing.{row_end}
 use Rattle.wf_model.specs.Kept.{IsKeptCell}
 use Rattle.wf_field.specs.Settings.{cell_at}
-use Rattle.wf_field.specs.Rows.{row_cells, row_number, SetsKept, columns_of, plane_cells, planes_cells, region_cells, region_number}
+use Rattle.wf_field.specs.Rows.{row_cells, row_number, SetsKept}
+use Rattle.wf_field.specs.Regions.{columns_of, plane_cells, planes_cells, region_cells, region_number}
 use Rattle.wf_field.proofs.Joining.{flat_more, both_kept, cells_kept, numbers_kept}
 
 -- what holds of each member
@@ -50,7 +51,7 @@ module _ (f : ℕ) (r : Region) where
       le_by e l m = omega (arith, e, l, m)
 
   -- a cell of a row is one of the region
-  row_in : (a y m : ℕ) → a < r.k1 - r.k0 → y < rows → m < columns → In (cell_at f (r.k0 + a) (r.rect.j0 +ℤ pos y) (r.rect.i0 +ℤ pos m)) (region_cells f r)
+  pub row_in : (a y m : ℕ) → a < r.k1 - r.k0 → y < rows → m < columns → In (cell_at f (r.k0 + a) (r.rect.j0 +ℤ pos y) (r.rect.i0 +ℤ pos m)) (region_cells f r)
   row_in a y m p q s =
       In-flat_map (λ (x : ℕ). plane_cells f (r.k0 + x) r.rect rows) (cell_at f (r.k0 + a) (r.rect.j0 +ℤ pos y) (r.rect.i0 +ℤ pos m)) a (range_with_len 0 (r.k1 - r.k0)) (In-range a 0 (r.k1 - r.k0) (omega arith) (omega arith))
       (In-flat_map (λ (x : ℕ). row_cells f (r.k0 + a) (r.rect.j0 +ℤ pos x) r.rect.i0 columns) (cell_at f (r.k0 + a) (r.rect.j0 +ℤ pos y) (r.rect.i0 +ℤ pos m)) y (range_with_len 0 rows) (In-range y 0 rows (omega arith) (omega arith))

@@ -9,11 +9,7 @@ use Rattle.wf_model.specs.PatchEffect.{Setting}
 use Rattle.wf_model.specs.Exchange.{same_cell}
 use Rattle.wf_boxes.specs.declared.places.LevelBox.{LevelBox}
 use Rattle.wf_boxes.specs.Places.{IsCellOf, place_of}
-use Rattle.wf_rect.specs.declared.rects.Rect.{Rect}
-use Rattle.wf_rect.specs.declared.rects.Region.{Region}
-use Rattle.wf_rect.specs.Tiles.{count_between, rows_of}
-use Rattle.wf_model.specs.Kept.{IsKeptCell}
-use Rattle.wf_model.specs.Kept.{level_kept}
+use Rattle.wf_model.specs.Kept.{IsKeptCell, level_kept}
 use Rattle.wf_field.specs.Kept.{box_at}
 use Rattle.wf_field.specs.Settings.{cell_at}
 
@@ -36,56 +32,26 @@ pub record IsBoxCell (boxes : List LevelBox) (c : Cell) : Type 0 where
   pub cell : IsCellOf (box_at boxes c.field) c.k c.j c.i
 
 -- these cells are set, each to its number, and no others
-pub record SetsCells (boxes : List LevelBox) (v : Cell →
-    ℤ) (cells : List Cell) (old new : List (List ℤ)) : Type 0 where
+pub record SetsCells (boxes : List LevelBox) (v : Cell → ℤ) (cells : List Cell)
+    (old new : List (List ℤ)) : Type 0 where
   pub levels : length new ≡ length old
   pub sizes : (f : ℕ) → length (level_kept new f) ≡ length (level_kept old f)
   pub numbers : (c : Cell) → IsBoxCell boxes c →
       number_of boxes new c ≡ (if list_any (same_cell c) cells then v c else number_of boxes old c)
 
 -- the same of the cells that a patch keeps
-pub record SetsKept (plan : Plan) (split : Split) (d p : ℕ) (v : Cell →
-    ℤ) (cells : List Cell) (old new : List (List ℤ)) : Type 0 where
+pub record SetsKept (plan : Plan) (split : Split) (d p : ℕ) (v : Cell → ℤ) (cells : List Cell)
+    (old new : List (List ℤ)) : Type 0 where
   pub levels : length new ≡ length old
   pub sizes : (f : ℕ) → length (level_kept new f) ≡ length (level_kept old f)
   pub numbers : (c : Cell) → IsKeptCell plan split d p c →
-      kept_at plan split d p new c.field c.k c.j c.i ≡ (if list_any (same_cell c) cells then v c
+      kept_at plan split d p new c.field c.k c.j c.i
+      ≡ (if list_any (same_cell c) cells then v c
       else kept_at plan split d p old c.field c.k c.j c.i)
 
 -- the number of a cell of a row from i on
 abbrev pub row_number : ℤ → List ℤ → Cell → ℤ
 row_number i values c = slice_index_or values (unsigned_abs (c.i -ℤ i)) (pos 0)
-
--- how many cells a row of a region has
-abbrev pub columns_of : Rect → ℕ
-columns_of r = count_between r.i0 r.i1
-
--- so many rows of cells of a level, from one on
-abbrev pub plane_cells : ℕ → ℕ → Rect → ℕ → List Cell
-plane_cells f k r n =
-    flat_map (λ y. row_cells f k (r.j0 +ℤ pos y) r.i0 (columns_of r)) (range_with_len 0 n)
-
--- so many planes of a region
-abbrev pub planes_cells : ℕ → Region → ℕ → List Cell
-planes_cells f r n =
-    flat_map (λ a. plane_cells f (r.k0 + a) r.rect (rows_of r.rect)) (range_with_len 0 n)
-
--- the cells of a level in a region, in order k, j, i
-abbrev pub region_cells : ℕ → Region → List Cell
-region_cells f r = planes_cells f r (r.k1 - r.k0)
-
--- the number of a cell of a region, in that order
-abbrev pub region_number : Region → List ℤ → Cell → ℤ
-region_number r values c =
-    slice_index_or values (((c.k - r.k0) * rows_of r.rect + unsigned_abs (c.j -ℤ r.rect.j0))
-        * columns_of r.rect + unsigned_abs (c.i -ℤ r.rect.i0)) (pos 0)
-
--- a setting of these cells, each to its number
-abbrev pub cells_setting : (Cell → ℤ) → List Cell → Setting
-cells_setting v cells = record {
-  sets = λ f k j i. list_any (same_cell (cell_at f k j i)) cells;
-  value = λ f k j i. Some (v (cell_at f k j i));
-}
 
 -- so many rows of a level of a memory box, and so many planes
 abbrev pub box_rows : ℕ → LevelBox → ℕ → ℕ → List Cell

@@ -1,11 +1,12 @@
 -- What the calls of a memory set, as settings of the definitions.
-use Rattle.std.specs.Prelude.{◌≡◌, ℕ, ◌==◌, List, ℤ, Some}
+use Rattle.std.specs.Prelude.{◌≡◌, ℕ, ◌==◌, nat_lt, List, ℤ, Some}
 use Rattle.wf_model.specs.declared.plan.Plan.{Plan}
 use Rattle.wf_model.specs.Grids.{grid_from}
 use Rattle.wf_model.specs.Plans.{nx, ny, point_x, point_y}
 use Rattle.wf_model.specs.Patches.{Cell}
 use Rattle.wf_model.specs.Exchange.{same_cell}
 use Rattle.wf_model.specs.PatchEffect.{Setting}
+use Rattle.wf_model.specs.Kept.{level_kept}
 use Rattle.wf_field.specs.Kept.{KeptMemory}
 
 -- the cell of a level at k, j and i
@@ -28,6 +29,13 @@ abbrev pub level_setting : Plan → ℕ → ℕ → List ℤ → Setting
 level_setting plan d f list = record {
   sets = λ g k j i. g == f;
   value = λ g k j i. Some (point_number plan d f list (cell_at g k j i));
+}
+
+-- all cells of the first n levels are set so, of which these are the lists
+abbrev pub levels_setting : Plan → ℕ → List (List ℤ) → ℕ → Setting
+levels_setting plan d lists n = record {
+  sets = λ f k j i. nat_lt f n;
+  value = λ f k j i. Some (point_number plan d f (level_kept lists f) (cell_at f k j i));
 }
 
 -- of the same patch

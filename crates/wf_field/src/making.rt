@@ -1,15 +1,17 @@
 //! The boxes and the lists that a patch's memory is made of.
 
 ghost use Rattle.std.specs.Prelude.{◌≡◌, ℕ, ◌^◌, ◌<◌, ◌≤◌, IfOk, length, replicate, slice_index_or};
-ghost use Rattle.std.specs.Prelude.{pos, vec_len};
+ghost use Rattle.std.specs.Prelude.{pos, vec_len, ◌-◌, ◌==◌, ◌||◌};
+ghost use Rattle.wf_model.specs.Outcome.{no_lists};
 ghost use Rattle.wf_model.specs.Patches.{split_of};
+ghost use Rattle.wf_model.specs.Plans.{begin_of};
 ghost use Rattle.wf_model.specs.Sound.{IsLevel};
 ghost use Rattle.wf_boxes.specs.Places.{IsLevelBox, IsNarrow, cells_of};
 ghost use Rattle.wf_field.specs.Kept.{AreLevelBoxes, AreZeros, box_at};
 
 use std::alloc::{AllocError, Global};
 use wf_boxes::{Patch, LevelBox, level_box};
-use wf_model::List;
+use wf_model::{Initial, List};
 
 /// The memory boxes of all levels of a patch.
 pub(crate) fn level_boxes(alloc: Global, patch: &Patch) -> Result<Vec<LevelBox>, AllocError>
@@ -44,4 +46,21 @@ pub(crate) fn zero_levels(alloc: Global, boxes: &[LevelBox]) -> Result<Vec<List<
         levels.push(level)?;
     }
     Ok(levels)
+}
+
+/// Whether a domain begins with numbers of its own: domain 1, and one that goes on from a restart
+/// file. All others begin with 0.
+pub(crate) fn has_numbers(initial: &Initial, domain: u32) -> bool
+    requires { (1 ≤ domain) × (domain ≤ length initial.now.begins) }
+    ensures { result ≡ ((domain == 1) || (begin_of initial.now.begins domain).resumed) }
+{
+    domain == 1 || initial.begins.as_slice()[domain as usize - 1].resumed
+}
+
+/// The numbers of a domain's levels.
+pub(crate) fn lists_of(initial: &Initial, domain: u32) -> &[List<i32>]
+    requires { (1 ≤ domain) × (domain ≤ length initial.now.grids) }
+    ensures { result.now ≡ slice_index_or initial.now.grids (domain - 1) no_lists }
+{
+    initial.grids.as_slice()[domain as usize - 1].as_slice()
 }

@@ -11,15 +11,20 @@ ghost use Rattle.wf_model.specs.PatchEffect.{swap_setting};
 ghost use Rattle.wf_model.specs.Sound.{IsDomain, IsLevel, IsSoundLayout};
 ghost use Rattle.wf_model.specs.SoundRun.{IsSoundRun};
 ghost use Rattle.wf_model.specs.Agreement.{IsPatch, IsOwnCell};
-ghost use Rattle.wf_model.specs.Kept.{IsSoundPatch, IsKeptCell};
-ghost use Rattle.wf_model.specs.Kept.{ShowsMemory, SetsExactly};
+ghost use Rattle.wf_model.specs.Kept.{IsSoundPatch, IsKeptCell, ShowsMemory, SetsExactly};
+ghost use Rattle.wf_model.specs.Kept.{level_kept};
 ghost use Rattle.wf_field.specs.Settings.{IsSamePatch, cell_at, cell_setting, level_setting};
+ghost use Rattle.wf_field.specs.Settings.{levels_setting};
+ghost use Rattle.wf_model.specs.Core.{begin_patch};
 ghost use Rattle.wf_field.specs.Settings.{point_number};
 ghost use Rattle.wf_field.specs.Sources.{points_of};
-ghost use Rattle.wf_field.specs.Rows.{SetsKept, cells_setting, plane_cells, box_rows, region_cells};
-ghost use Rattle.wf_field.specs.Rows.{region_number, row_cells, row_number};
+ghost use Rattle.wf_field.specs.Rows.{SetsKept, box_rows};
+ghost use Rattle.wf_field.specs.Regions.{IsKeptRegion, region_setting, region_size};
+ghost use Rattle.wf_field.specs.Regions.{plane_cells, region_cells};
+ghost use Rattle.wf_field.specs.Rows.{row_cells, row_number};
+ghost use Rattle.wf_field.specs.Regions.{region_number};
 
-use crate::making::{level_boxes, zero_levels};
+use crate::making::{has_numbers, level_boxes, lists_of, zero_levels};
 use crate::numbers::{number_in, put_in};
 use crate::rows::{moved, part, put_row_in};
 use crate::sources::{column, row};
@@ -27,7 +32,7 @@ use crate::sums::{count_cells, sum_levels};
 use std::alloc::{AllocError, Global};
 use std::marker::{Model, PhantomData};
 use wf_boxes::{Patch, LevelBox, count};
-use wf_model::{Layout, List, Plan, RunName};
+use wf_model::{Initial, Layout, List, Plan, RunName};
 use wf_rect::Region;
 
 /// The numbers of all field levels that a patch keeps: at its own points, and at the cells around
@@ -89,6 +94,35 @@ impl<N: RunName> Memory<N> {
             levels: List::from_vec(levels),
             of: PhantomData,
         })
+    }
+
+    /// A memory of a patch as the run begins: each cell has the number that its point begins with,
+    /// wrapped cells included. It takes all memory that it needs.
+    pub fn begin(
+        alloc: Global,
+        plan: &Plan,
+        layout: &Layout,
+        domain: u32,
+        patch: u32,
+        initial: &Initial,
+    ) -> Result<Memory<N>, AllocError>
+        requires plan { plan.now ≡ N.run.plan }
+        requires layout { layout.now ≡ N.layout }
+        requires initial { initial.now ≡ N.run.initial }
+        requires sound { IsSoundRun N.run }
+        requires laid { IsSoundLayout N.run.plan N.layout }
+        requires domain { IsDomain N.run.plan domain }
+        requires patch { IsPatch N.layout patch }
+        ensures domain { IfOk result (λ m. m.domain ≡ domain) }
+        ensures patch { IfOk result (λ m. m.patch ≡ patch) }
+        ensures begins { IfOk result (λ m. ShowsMemory N.run.plan (split_of N.layout) domain patch
+            m.levels (begin_patch N.run N.layout domain patch).memory) }
+    {
+        let mut memory = Memory::new(alloc, plan, layout, domain, patch)?;
+        if has_numbers(initial, domain) {
+            memory.fill_levels(lists_of(initial, domain));
+        }
+        Ok(memory)
     }
 
     /// Its domain, from 1.
@@ -197,14 +231,12 @@ impl<N: RunName> Memory<N> {
     /// and no others.
     pub fn commit(&mut self, field: u32, region: Region, scratch: &[i32])
         requires level { IsLevel N.run.plan field }
-        requires near { HasNearEnds region.rect }
-        requires cells { All (IsKeptCell N.run.plan
-            (split_of N.layout) self.old.domain self.old.patch) (region_cells field region) }
-        requires scratch { length (region_cells field region) ≤ length scratch.now }
+        requires region { IsKeptRegion N.run.plan (split_of N.layout)
+            self.old.domain self.old.patch field region }
+        requires scratch { region_size region ≤ length scratch.now }
         ensures same { IsSamePatch self.old self.new }
         ensures set { SetsExactly N.run.plan (split_of N.layout) self.old.domain self.old.patch
-            (cells_setting (region_number region scratch.now) (region_cells field region))
-            self.old.levels self.new.levels }
+            (region_setting field region scratch.now) self.old.levels self.new.levels }
     {
         for a in 0..region.k1.saturating_sub(region.k0) {
             self.commit_plane(field, region, a, scratch);
@@ -270,6 +302,22 @@ impl<N: RunName> Memory<N> {
         let bounds = self.boxes.as_slice()[field as usize];
         for k in 0..bounds.levels {
             self.fill_plane(field, &bounds, k + 1, values);
+        }
+    }
+
+    /// Sets all cells of all levels so.
+    fn fill_levels(&mut self, lists: &[List<i32>])
+        requires levels { length lists.now ≡ length N.run.plan.fields }
+        requires few { length lists.now ≤ 64 }
+        requires lists { (f : ℕ) → f < length lists.now → length (level_kept lists.now f) ≡ nz
+            N.run.plan f * (ny N.run.plan self.old.domain f * nx N.run.plan self.old.domain f) }
+        ensures same { IsSamePatch self.old self.new }
+        ensures set { SetsExactly N.run.plan (split_of N.layout) self.old.domain self.old.patch
+            (levels_setting N.run.plan self.old.domain lists.now (length lists.now)) self.old.levels
+            self.new.levels }
+    {
+        for field in 0..lists.len() as u32 {
+            self.fill(field, lists[field as usize].as_slice());
         }
     }
 

@@ -6,7 +6,8 @@ use Rattle.wf_rect.specs.Tiles.{rows_of}
 use Rattle.wf_rect.proofs.Stored.{count_of}
 use Rattle.wf_model.specs.Kept.{IsKeptCell}
 use Rattle.wf_field.specs.Settings.{IsSamePatch}
-use Rattle.wf_field.specs.Rows.{SetsKept, columns_of, plane_cells, region_cells, region_number}
+use Rattle.wf_field.specs.Rows.{SetsKept}
+use Rattle.wf_field.specs.Regions.{columns_of, plane_cells, region_cells, region_number}
 use Rattle.wf_field.proofs.Joining.{kept_patch}
 use Rattle.wf_field.proofs.Regions.{row_inside, row_all, row_step}
 use Rattle.wf_field.proofs.memory.Memory.commit_plane.Goals as goal
