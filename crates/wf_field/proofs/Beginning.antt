@@ -1,12 +1,13 @@
 -- A memory whose levels are filled one after another.
-use Rattle.std.proofs.Common.{◌≡◌, ◌⊎◌, ⊎_elim, inl, inr, ℕ, ◌+◌, ◌-◌, ◌≤◌, ◌<◌, Bool, true, false, List, [], length, get_or, refl, sym, ap, subst, ◌∙◌, arith}
+use Rattle.std.proofs.Common.{◌≡◌, ◌⊎◌, ⊎_elim, inl, inr, ℕ, ◌+◌, ◌-◌, ◌<◌, Bool, true, false, List, length, refl, sym, ap, subst, ◌∙◌, arith}
 use Rattle.std.specs.Prelude.{ℤ, pos, ◌==◌, ◌||◌, nat_lt, slice_index_or, if◌then◌else◌}
 use Rattle.wf_model.specs.declared.layout.Layout.{Layout}
 use Rattle.wf_model.specs.declared.plan.Plan.{Plan}
 use Rattle.wf_model.specs.Core.{begin_patch}
 use Rattle.wf_model.specs.Grids.{Grid}
-use Rattle.wf_model.specs.Kept.{IsKeptCell, ShowsMemory, SetsExactly, level_kept}
+use Rattle.wf_model.specs.Kept.{ShowsMemory, SetsExactly, level_kept}
 use Rattle.wf_model.specs.Outcome.{RunData, begin_grids, input_grids, no_lists}
+use Rattle.wf_model.specs.PatchEffect.{Memory}
 use Rattle.wf_model.specs.Patches.{Split, Cell, split_of, kept_at}
 use Rattle.wf_model.specs.Plans.{begin_of, point_x, point_y}
 use Rattle.wf_laws.proofs.Bools.{equal_or_not, equal_test, unlike, less_of, less_test, differ, split_bool}
@@ -102,3 +103,9 @@ pub exact_levels :
 exact_levels {plan} {split} {d} {e} {p} {q} {a} {b} lists domain patch h =
     subst (λ (m : ℕ). SetsExactly plan split m q (levels_setting plan m lists (length lists)) a b) domain
     (subst (λ (m : ℕ). SetsExactly plan split d m (levels_setting plan d lists (length lists)) a b) patch h)
+
+pub shown_patch :
+    {plan : Plan} {split : Split} {d e p q : ℕ} {lists : List (List ℤ)} (m : Memory) → d ≡ e → p ≡ q
+    → ShowsMemory plan split d p lists m → ShowsMemory plan split e q lists m
+shown_patch {plan} {split} {d} {e} {p} {q} {lists} m domain patch h =
+    subst (λ (n : ℕ). ShowsMemory plan split n q lists m) domain (subst (λ (n : ℕ). ShowsMemory plan split d n lists m) patch h)

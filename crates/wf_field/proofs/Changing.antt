@@ -1,10 +1,10 @@
 -- Lists of which one level's is replaced.
-use Rattle.std.proofs.Common.{◌≡◌, ◌⊎◌, ⊎_elim, ℕ, ◌≤◌, ◌<◌, Bool, true, false, List, [], length, get_or, set, take, drop, ◌++◌, sym, ap, subst, ◌∙◌, refl, arith}
+use Rattle.std.proofs.Common.{◌≡◌, ⊎_elim, ℕ, ◌≤◌, ◌<◌, Bool, false, List, [], length, get_or, set, take, drop, ◌++◌, sym, ap, subst, ◌∙◌, arith}
 use Rattle.std.proofs.lemmas.List.{get_or-set_same, get_or-set_other, length-set, take_all, take-append-le, get_or_read}
 use Rattle.std.specs.Prelude.{ℤ, pos, ◌==◌, ◌&&◌, unwrap_or, if◌then◌else◌}
 use Rattle.wf_model.specs.declared.layout.Layout.{Layout}
 use Rattle.wf_model.specs.declared.plan.Plan.{Plan}
-use Rattle.wf_model.specs.Patches.{Split, Cell, split_of, kept_at}
+use Rattle.wf_model.specs.Patches.{Split, Cell, kept_at}
 use Rattle.wf_model.specs.PatchEffect.{Setting}
 use Rattle.wf_model.specs.Sound.{IsLevel}
 use Rattle.wf_model.specs.Exchange.{same_cell, int_same}
@@ -12,7 +12,7 @@ use Rattle.wf_laws.proofs.Bools.{equal_or_not, unlike, differ, split_bool}
 use Rattle.wf_laws.proofs.Fetch.{same_cell-equal, same_cell-same}
 use Rattle.wf_boxes.specs.declared.places.LevelBox.{LevelBox}
 use Rattle.wf_model.specs.Kept.{IsKeptCell}
-use Rattle.wf_model.specs.Kept.{kept_size, kept_place, level_kept, SetsExactly}
+use Rattle.wf_model.specs.Kept.{kept_place, level_kept, SetsExactly}
 use Rattle.wf_patch_laws.proofs.KeptLists.{tell_cells}
 use Rattle.wf_field.specs.Kept.{IsMemory}
 use Rattle.wf_field.specs.Settings.{cell_setting}

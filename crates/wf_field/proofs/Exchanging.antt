@@ -1,18 +1,17 @@
 -- Two levels of a field, exchanged.
-use Rattle.std.proofs.Common.{◌≡◌, ◌⊎◌, ⊎_elim, ℕ, ◌+◌, ◌-◌, ◌*◌, ◌/◌, ◌%◌, ◌<◌, Bool, true, false, List, [], length, get_or, sym, ap, subst, ◌∙◌}
-use Rattle.std.specs.Prelude.{ℤ, pos, ◌-ℤ◌, ◌==◌, ◌||◌, unsigned_abs, unwrap_or, Some, if◌then◌else◌}
+use Rattle.std.proofs.Common.{◌≡◌, ⊎_elim, ℕ, ◌+◌, ◌-◌, ◌*◌, ◌/◌, ◌%◌, Bool, false, List, [], length, get_or, sym, ap, subst, ◌∙◌}
+use Rattle.std.specs.Prelude.{ℤ, pos, ◌-ℤ◌, ◌==◌, ◌||◌, unsigned_abs, if◌then◌else◌}
 use Rattle.std.specs.List.{SwappedAt}
 use Rattle.wf_model.specs.declared.layout.Layout.{Layout}
 use Rattle.wf_model.specs.declared.plan.Plan.{Plan}
 use Rattle.wf_model.specs.Plans.{domain_of, field_of, nz, extra}
 use Rattle.wf_model.specs.Reads.{margin_of}
 use Rattle.wf_model.specs.Changes.{swapped_with}
-use Rattle.wf_model.specs.Patches.{Split, Box, Cell, split_of, size_of, block, grown, cut_unless, own_box, memory_box, kept_at}
+use Rattle.wf_model.specs.Patches.{Split, Box, split_of, size_of, block, grown, cut_unless, own_box, memory_box, kept_at}
 use Rattle.wf_model.specs.PatchEffect.{swap_setting}
 use Rattle.wf_model.specs.Sound.{IsLevel, IsSoundPair}
 use Rattle.wf_laws.proofs.Bools.{equal_or_not, equal_test, unlike}
 use Rattle.wf_boxes.specs.declared.places.LevelBox.{LevelBox}
-use Rattle.wf_model.specs.Kept.{IsKeptCell}
 use Rattle.wf_model.specs.Kept.{kept_size, level_kept, SetsExactly}
 use Rattle.wf_field.specs.Kept.{IsMemory}
 

@@ -1,23 +1,19 @@
 -- All cells of a level of a memory.
-use Rattle.std.proofs.Common.{◌≡◌, ◌⊎◌, ⊎_elim, ℕ, ◌+◌, ◌-◌, ◌*◌, ◌≤◌, ◌<◌, Bool, true, false, List, [], ◌∷◌, ◌++◌, length, get_or, map, flat_map, refl, sym, ap, subst, ◌∙◌, All, arith}
-use Rattle.std.proofs.lemmas.Int.{ints}
-use Rattle.std.specs.Prelude.{ℤ, pos, ◌+ℤ◌, ◌-ℤ◌, ◌≤ℤ◌, ◌<ℤ◌, ◌==◌, unsigned_abs, if◌then◌else◌}
+use Rattle.std.proofs.Common.{◌≡◌, ⊎_elim, ℕ, ◌+◌, ◌-◌, ◌≤◌, ◌<◌, Bool, true, List, ◌++◌, sym, ap, subst, ◌∙◌, All, arith}
+use Rattle.std.specs.Prelude.{ℤ, pos, ◌+ℤ◌, ◌-ℤ◌, ◌==◌, unsigned_abs, if◌then◌else◌}
 use Rattle.std.specs.List.{range_with_len, list_any}
-use Rattle.wf_model.specs.declared.layout.Layout.{Layout}
 use Rattle.wf_model.specs.declared.plan.Plan.{Plan}
-use Rattle.wf_model.specs.Plans.{nz}
-use Rattle.wf_model.specs.Patches.{Split, Span, Box, Cell, split_of, in_span, in_box, size_of, memory_box, kept_at}
+use Rattle.wf_model.specs.Patches.{Split, Box, Cell, in_span, memory_box, kept_at}
 use Rattle.wf_model.specs.Exchange.{same_cell}
 use Rattle.wf_model.specs.Sound.{IsLevel}
-use Rattle.wf_laws.proofs.Bools.{and_left, and_right, and_both, equal_of, equal_test, split_bool, unlike, equal_or_not}
-use Rattle.wf_laws.proofs.Members.{In, In-map, In-map_out, In-range, In-range_out, In-flat_map, In-flat_map_out, In-list_any, list_any-In, list_any-none}
+use Rattle.wf_laws.proofs.Bools.{and_left, and_right, and_both, equal_test, split_bool, unlike, equal_or_not}
+use Rattle.wf_laws.proofs.Members.{In, In-map, In-map_out, In-range, In-range_out, In-flat_map, In-flat_map_out, list_any-In, list_any-none}
 use Rattle.wf_laws.proofs.Fetch.{same_cell-equal, same_cell-same}
 use Rattle.wf_boxes.specs.declared.places.LevelBox.{LevelBox}
 use Rattle.wf_boxes.specs.Places.{IsLevelBox}
 use Rattle.wf_model.specs.Kept.{IsKeptCell}
 use Rattle.wf_model.specs.Kept.{SetsExactly}
 use Rattle.wf_laws.proofs.Cells.{span-at, span-holds}
-
 use Rattle.wf_field.specs.Settings.{cell_at, point_number, level_setting}
 use Rattle.wf_field.specs.Rows.{row_cells, box_rows, box_planes, SetsKept}
 use Rattle.wf_field.proofs.Joining.{flat_more, both_kept, cells_kept}

@@ -1,7 +1,7 @@
 -- Cells of a memory are found in the lists that it keeps.
-use Rattle.std.proofs.Common.{◌≡◌, ℕ, ◌+◌, ◌-◌, ◌*◌, ◌≤◌, ◌<◌, true, List, length, get_or, sym, ap, subst, ◌∙◌, refl, arith}
+use Rattle.std.proofs.Common.{◌≡◌, ℕ, ◌+◌, ◌-◌, ◌*◌, ◌≤◌, ◌<◌, true, List, get_or, sym, ap, subst, ◌∙◌, refl, arith}
 use Rattle.std.proofs.lemmas.Int.{ints}
-use Rattle.std.specs.Prelude.{ℤ, pos, ◌+ℤ◌, ◌-ℤ◌, ◌≤ℤ◌, ◌<ℤ◌, unsigned_abs}
+use Rattle.std.specs.Prelude.{ℤ, pos, ◌-ℤ◌, ◌≤ℤ◌, unsigned_abs}
 use Rattle.wf_model.specs.declared.layout.Layout.{Layout}
 use Rattle.wf_model.specs.declared.plan.Plan.{Plan}
 use Rattle.wf_model.specs.Patches.{Split, Span, Box, Cell, split_of, in_span, size_of, memory_box, kept_at}
@@ -14,7 +14,6 @@ use Rattle.wf_model.specs.Kept.{IsKeptCell}
 use Rattle.wf_model.specs.Kept.{kept_size, kept_place, level_kept, ShowsMemory}
 use Rattle.wf_laws.proofs.Cells.{span-at}
 use Rattle.wf_field.specs.Kept.{IsMemory, IsLevelOf, box_at}
-use Rattle.wf_field.specs.Settings.{cell_at}
 
 -- a number of a span lies among as many from its low end on
 from_in : (s : Span) (low : ℤ) (n : ℕ) (c : ℤ) → low ≡ s.low → n ≡ size_of s → in_span s c ≡ true → IsFrom low n c

@@ -1,5 +1,5 @@
 -- Cells that are set one after the other.
-use Rattle.std.proofs.Common.{◌≡◌, ⊎_elim, ℕ, zero, suc, ◌+◌, Bool, true, false, List, [], ◌∷◌, ◌++◌, length, flat_map, refl, sym, ap, subst, ◌∙◌, arith}
+use Rattle.std.proofs.Common.{◌≡◌, ⊎_elim, ℕ, zero, suc, ◌+◌, Bool, true, false, List, [], ◌∷◌, ◌++◌, flat_map, refl, sym, ap, subst, ◌∙◌, arith}
 use Rattle.std.proofs.lemmas.Grind.{flat_map-append}
 use Rattle.std.proofs.lemmas.List.Folds.{list_any-append}
 use Rattle.std.specs.Prelude.{ℤ, ◌||◌, if◌then◌else◌}
@@ -10,7 +10,6 @@ use Rattle.wf_model.specs.Exchange.{same_cell}
 use Rattle.wf_laws.proofs.Members.{In, In-list_any}
 use Rattle.wf_laws.proofs.Bools.{split_bool}
 use Rattle.wf_laws.proofs.Fetch.{same_cell-equal}
-use Rattle.wf_model.specs.Kept.{SetsExactly}
 use Rattle.wf_field.specs.Rows.{SetsKept}
 
 -- the numbers from a on, and one more

@@ -1,22 +1,19 @@
 -- Rows of cells of a patch's memory.
-use Rattle.std.proofs.Common.{◌≡◌, ℕ, suc, ◌+◌, ◌-◌, ◌*◌, ◌≤◌, ◌<◌, Bool, List, [], ◌∷◌, ◌++◌, length, get_or, map, flat_map, set, refl, sym, ap, subst, ◌∙◌, All, arith}
+use Rattle.std.proofs.Common.{◌≡◌, ℕ, ◌-◌, ◌<◌, List, length, get_or, set, sym, ap, subst, ◌∙◌, All, arith}
 use Rattle.std.proofs.lemmas.Int.{ints}
-use Rattle.std.proofs.lemmas.Grind.{flat_map-append}
-use Rattle.std.specs.Prelude.{ℤ, pos, ◌+ℤ◌, ◌-ℤ◌, ◌≤ℤ◌, ◌<ℤ◌, unsigned_abs, if◌then◌else◌}
+use Rattle.std.specs.Prelude.{ℤ, pos, ◌+ℤ◌, ◌-ℤ◌, unsigned_abs, if◌then◌else◌}
 use Rattle.std.specs.List.{range_with_len, list_any}
 use Rattle.wf_model.specs.declared.layout.Layout.{Layout}
 use Rattle.wf_model.specs.declared.plan.Plan.{Plan}
-use Rattle.wf_model.specs.Patches.{Split, Cell, split_of, kept_at}
+use Rattle.wf_model.specs.Patches.{Cell, split_of, kept_at}
 use Rattle.wf_model.specs.Exchange.{same_cell}
 use Rattle.wf_model.specs.Sound.{IsLevel}
-use Rattle.wf_laws.proofs.Members.{In, In-map, In-range, In-list_any, All-In}
-use Rattle.wf_laws.proofs.Bools.{split_bool}
-use Rattle.wf_laws.proofs.Fetch.{same_cell-equal}
+use Rattle.wf_laws.proofs.Members.{In-map, In-range, All-In}
 use Rattle.wf_boxes.specs.declared.places.LevelBox.{LevelBox}
 use Rattle.wf_boxes.specs.Places.{IsCellOf, IsRowOf, place_of}
 use Rattle.wf_model.specs.Kept.{IsKeptCell}
-use Rattle.wf_model.specs.Kept.{level_kept, kept_place, SetsExactly}
-use Rattle.wf_field.specs.Kept.{IsMemory, IsLevelOf, box_at}
+use Rattle.wf_model.specs.Kept.{level_kept}
+use Rattle.wf_field.specs.Kept.{IsMemory, box_at}
 use Rattle.wf_field.specs.Settings.{cell_at}
 use Rattle.wf_field.specs.Rows.{with_row, row_cells, row_number, number_of, IsBoxCell, SetsCells, SetsKept}
 use Rattle.wf_field.proofs.Finding.{level_of, kept_cell, box_of, place_is}

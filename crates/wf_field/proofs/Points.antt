@@ -1,19 +1,18 @@
 -- Cells of a memory and the points that they stand for, run by run.
-use Rattle.std.proofs.Common.{◌≡◌, ℕ, zero, suc, append_assoc, ◌+◌, ◌-◌, ◌*◌, ◌≤◌, ◌<◌, Bool, true, false, List, [], ◌∷◌, ◌++◌, length, get_or, map, refl, sym, ap, subst, ◌∙◌, All, arith}
+use Rattle.std.proofs.Common.{◌≡◌, ℕ, zero, suc, append_assoc, ◌+◌, ◌-◌, ◌*◌, ◌≤◌, ◌<◌, Bool, true, false, List, [], ◌∷◌, ◌++◌, length, get_or, refl, sym, ap, subst, ◌∙◌, All, arith}
 use Rattle.std.proofs.lemmas.Int.{ints}
 use Rattle.std.proofs.lemmas.List.FromFn.{map-range_with_len_more}
-use Rattle.std.specs.Prelude.{ℤ, pos, ◌+ℤ◌, ◌-ℤ◌, ◌≤ℤ◌, ◌<ℤ◌, ◌||◌, unsigned_abs}
+use Rattle.std.specs.Prelude.{ℤ, pos, ◌+ℤ◌, ◌-ℤ◌, ◌≤ℤ◌, ◌||◌, unsigned_abs}
 use Rattle.std.specs.List.{range_with_len}
 use Rattle.wf_model.specs.declared.layout.Layout.{Layout}
 use Rattle.wf_model.specs.declared.plan.Plan.{Plan}
-use Rattle.wf_model.specs.Plans.{domain_of, nx, ny, nz, wrapped, point_x, point_y}
+use Rattle.wf_model.specs.Plans.{domain_of, nx, ny, wrapped, point_x, point_y}
 use Rattle.wf_model.specs.Grids.{grid_from}
-use Rattle.wf_model.specs.Patches.{Split, Cell, Box, split_of, in_span, in_box, size_of, memory_box, is_place}
-use Rattle.wf_laws.proofs.Bools.{and_both}
-use Rattle.wf_laws.proofs.Members.{In, In-map, In-map_out, In-range, In-range_out, All-In}
+use Rattle.wf_model.specs.Patches.{Split, Cell, split_of, in_span, is_place}
+use Rattle.wf_laws.proofs.Members.{In-map, In-map_out, In-range, In-range_out, All-In}
 use Rattle.wf_laws.proofs.Places.{IsRoom, room_of, whole, place_x, place_y, wrapped-back}
 use Rattle.wf_laws.proofs.Reach.{memory_place}
-use Rattle.wf_laws.proofs.Spans.{span-low, span-high}
+use Rattle.wf_laws.proofs.Spans.{span-low}
 use Rattle.wf_laws.proofs.Wrapping.{wrapped-shift}
 use Rattle.wf_boxes.specs.declared.places.LevelBox.{LevelBox}
 use Rattle.wf_boxes.specs.Places.{IsLevelBox}

@@ -1,13 +1,12 @@
 -- The cells of a region, told by a test.
-use Rattle.std.proofs.Common.{◌≡◌, ◌⊎◌, ⊎_elim, ℕ, ◌+◌, ◌-◌, ◌*◌, ◌≤◌, ◌<◌, Bool, true, false, List, length, refl, sym, ap, subst, ◌∙◌, All, arith}
-use Rattle.std.proofs.lemmas.Int.{ints}
+use Rattle.std.proofs.Common.{◌≡◌, ⊎_elim, ℕ, ◌+◌, ◌-◌, ◌≤◌, ◌<◌, Bool, true, List, length, sym, ap, subst, ◌∙◌, All, arith}
 use Rattle.std.specs.Prelude.{ℤ, pos, ◌+ℤ◌, ◌-ℤ◌, ◌==◌, ◌&&◌, nat_le, nat_lt, unsigned_abs, if◌then◌else◌}
 use Rattle.std.specs.List.{range_with_len, list_any}
 use Rattle.wf_model.specs.declared.plan.Plan.{Plan}
-use Rattle.wf_model.specs.Patches.{Split, Box, Cell, in_span, in_box, kept_at}
+use Rattle.wf_model.specs.Patches.{Split, Cell, in_span, in_box, kept_at}
 use Rattle.wf_model.specs.Exchange.{same_cell}
-use Rattle.wf_model.specs.Kept.{IsKeptCell, SetsExactly}
-use Rattle.wf_laws.proofs.Bools.{and_left, and_right, and_both, equal_of, equal_test, split_bool, differ}
+use Rattle.wf_model.specs.Kept.{SetsExactly}
+use Rattle.wf_laws.proofs.Bools.{and_left, and_right, and_both, equal_of, equal_test, less_of, less_test, most_of, most_test, split_bool, differ}
 use Rattle.wf_laws.proofs.Cells.{span-at, span-holds}
 use Rattle.wf_laws.proofs.Members.{In, In-map_out, In-range_out, In-flat_map_out, list_any-In, list_any-none}
 use Rattle.wf_laws.proofs.Fetch.{same_cell-equal, same_cell-same}
@@ -16,20 +15,8 @@ use Rattle.wf_rect.specs.Tiles.{rows_of}
 use Rattle.wf_boxes.specs.Boxes.{box_of}
 use Rattle.wf_field.specs.Settings.{cell_at}
 use Rattle.wf_field.specs.Rows.{row_cells, SetsKept}
-use Rattle.wf_field.specs.Regions.{IsKeptRegion, region_has, columns_of, region_size, plane_cells, region_cells, region_number, region_setting}
+use Rattle.wf_field.specs.Regions.{region_has, columns_of, region_size, plane_cells, region_cells, region_number, region_setting}
 use Rattle.wf_field.proofs.Regions.{All-from, length_region, row_in}
-
-le_test : (m n : ℕ) → m ≤ n → nat_le m n ≡ true
-le_test m n h = grind (arith, h)
-
-lt_test : (m n : ℕ) → m < n → nat_lt m n ≡ true
-lt_test m n h = grind (arith, h)
-
-le_of : (m n : ℕ) → nat_le m n ≡ true → m ≤ n
-le_of m n h = grind (arith, h)
-
-lt_of : (m n : ℕ) → nat_lt m n ≡ true → m < n
-lt_of m n h = grind (arith, h)
 
 module _ (f : ℕ) (r : Region) where
   -- a cell so far from the region's corner
@@ -58,7 +45,7 @@ module _ (f : ℕ) (r : Region) where
   has c w =
       subst (λ (z : Cell). region_has r z.k z.j z.i ≡ true) (sym w.is)
       (and_both (nat_le r.k0 (r.k0 + w.a) && nat_lt (r.k0 + w.a) r.k1) (in_box (box_of r.rect) (r.rect.j0 +ℤ pos w.y) (r.rect.i0 +ℤ pos w.x))
-      (and_both (nat_le r.k0 (r.k0 + w.a)) (nat_lt (r.k0 + w.a) r.k1) (le_test r.k0 (r.k0 + w.a) (omega arith)) (lt_test (r.k0 + w.a) r.k1 (let l = w.plane in omega (arith, l))))
+      (and_both (nat_le r.k0 (r.k0 + w.a)) (nat_lt (r.k0 + w.a) r.k1) (most_test r.k0 (r.k0 + w.a) (omega arith)) (less_test (r.k0 + w.a) r.k1 (let l = w.plane in omega (arith, l))))
       (and_both (in_span (box_of r.rect).y (r.rect.j0 +ℤ pos w.y)) (in_span (box_of r.rect).x (r.rect.i0 +ℤ pos w.x)) (span-holds (box_of r.rect).y w.y w.row) (span-holds (box_of r.rect).x w.x w.column)))
 
   -- and each point of the region is a cell of the list
@@ -66,8 +53,8 @@ module _ (f : ℕ) (r : Region) where
   listed k j i h =
       let levels = and_left (nat_le r.k0 k && nat_lt k r.k1) (in_box (box_of r.rect) j i) h in
       let box = and_right (nat_le r.k0 k && nat_lt k r.k1) (in_box (box_of r.rect) j i) h in
-      let low : r.k0 ≤ k = le_of r.k0 k (and_left (nat_le r.k0 k) (nat_lt k r.k1) levels) in
-      let high : k < r.k1 = lt_of k r.k1 (and_right (nat_le r.k0 k) (nat_lt k r.k1) levels) in
+      let low : r.k0 ≤ k = most_of r.k0 k (and_left (nat_le r.k0 k) (nat_lt k r.k1) levels) in
+      let high : k < r.k1 = less_of k r.k1 (and_right (nat_le r.k0 k) (nat_lt k r.k1) levels) in
       let y = span-at (box_of r.rect).y j (and_left (in_span (box_of r.rect).y j) (in_span (box_of r.rect).x i) box) in
       let x = span-at (box_of r.rect).x i (and_right (in_span (box_of r.rect).y j) (in_span (box_of r.rect).x i) box) in
       let at : r.k0 + (k - r.k0) ≡ k = omega arith in

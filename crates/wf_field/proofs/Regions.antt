@@ -1,5 +1,5 @@
 -- The cells of a region, row by row.
-use Rattle.std.proofs.Common.{◌≡◌, ℕ, suc, ◌+◌, ◌-◌, ◌*◌, ◌≤◌, ◌<◌, List, [], ◌∷◌, ◌++◌, length, get_or, map, flat_map, refl, sym, ap, subst, ◌∙◌, All, arith}
+use Rattle.std.proofs.Common.{◌≡◌, ℕ, ◌+◌, ◌-◌, ◌*◌, ◌≤◌, ◌<◌, List, ◌++◌, length, get_or, sym, ap, subst, ◌∙◌, All, arith}
 use Rattle.std.proofs.lemmas.Int.{ints}
 use Rattle.std.proofs.Math.Nat.{mul_assoc}
 use Rattle.std.proofs.lemmas.List.FromFn.{length-map-range_with_len}
@@ -9,11 +9,9 @@ use Rattle.wf_model.specs.declared.plan.Plan.{Plan}
 use Rattle.wf_model.specs.Patches.{Split, Cell}
 use Rattle.wf_laws.proofs.Members.{In, In-map, In-map_out, In-range, In-range_out, In-flat_map, All-In, In-get_or}
 use Rattle.wf_laws.proofs.Listing.{length-rows}
-use Rattle.wf_rect.specs.declared.rects.Rect.{Rect}
 use Rattle.wf_rect.specs.declared.rects.Region.{Region}
-use Rattle.wf_rect.specs.Tiles.{count_between, rows_of}
+use Rattle.wf_rect.specs.Tiles.{rows_of}
 use Rattle.wf_boxes.proofs.Placing.{row_end}
-use Rattle.wf_model.specs.Kept.{IsKeptCell}
 use Rattle.wf_field.specs.Settings.{cell_at}
 use Rattle.wf_field.specs.Rows.{row_cells, row_number, SetsKept}
 use Rattle.wf_field.specs.Regions.{columns_of, plane_cells, planes_cells, region_cells, region_number}

@@ -1,18 +1,18 @@
 -- A row that is set: which cells have which numbers.
-use Rattle.std.proofs.Common.{◌≡◌, ◌⊎◌, ⊎_elim, inl, inr, ℕ, zero, suc, ◌+◌, ◌-◌, ◌*◌, ◌/◌, ◌%◌, ◌≤◌, ◌<◌, Bool, true, false, List, [], ◌∷◌, ◌++◌, length, get_or, set, take, drop, map, refl, sym, ap, subst, ◌∙◌, arith}
+use Rattle.std.proofs.Common.{◌≡◌, ◌⊎◌, ⊎_elim, inl, inr, ℕ, ◌+◌, ◌-◌, ◌*◌, ◌/◌, ◌%◌, ◌≤◌, ◌<◌, Bool, true, false, List, [], ◌++◌, length, get_or, set, take, drop, refl, sym, ap, subst, ◌∙◌, arith}
 use Rattle.std.proofs.lemmas.Int.{ints}
 use Rattle.std.proofs.lemmas.List.{get_or-take, get_or-drop, get_or-append-add, length-take-le, length-append, length-drop, length-set}
 use Rattle.std.proofs.lemmas.List.Folds.{list_any-append}
 use Rattle.std.proofs.Math.ListN.{get_or-append}
-use Rattle.std.specs.Prelude.{ℤ, pos, ◌+ℤ◌, ◌-ℤ◌, ◌≤ℤ◌, ◌<ℤ◌, ◌||◌, unsigned_abs, if◌then◌else◌}
+use Rattle.std.specs.Prelude.{ℤ, pos, ◌+ℤ◌, ◌-ℤ◌, ◌≤ℤ◌, ◌||◌, unsigned_abs, if◌then◌else◌}
 use Rattle.std.specs.List.{range_with_len, list_any}
 use Rattle.wf_model.specs.Patches.{Cell}
 use Rattle.wf_model.specs.Exchange.{same_cell}
 use Rattle.wf_laws.proofs.Bools.{split_bool, differ, equal_or_not}
-use Rattle.wf_laws.proofs.Members.{In, In-map, In-map_out, In-range, In-range_out, In-list_any, list_any-In, list_any-none}
+use Rattle.wf_laws.proofs.Members.{In, In-map, In-map_out, In-range, In-range_out, In-list_any, list_any-In}
 use Rattle.wf_laws.proofs.Fetch.{same_cell-equal, same_cell-same}
 use Rattle.wf_boxes.specs.declared.places.LevelBox.{LevelBox}
-use Rattle.wf_boxes.specs.Places.{IsFrom, IsCellOf, IsRowOf, cells_of, place_of}
+use Rattle.wf_boxes.specs.Places.{IsFrom, IsCellOf, IsRowOf, place_of}
 use Rattle.wf_boxes.proofs.Placing.{row_fits}
 use Rattle.wf_model.specs.Kept.{level_kept}
 use Rattle.std.proofs.lemmas.Nat.{div-mul-add, mod-mul-add}

@@ -6,11 +6,10 @@ use Rattle.std.proofs.Math.ListN.{get_or-append}
 use Rattle.std.specs.Prelude.{ℤ, pos, replicate}
 use Rattle.wf_model.specs.declared.layout.Layout.{Layout}
 use Rattle.wf_model.specs.declared.plan.Plan.{Plan}
-use Rattle.wf_model.specs.Patches.{Cell, split_of, kept_at}
+use Rattle.wf_model.specs.Patches.{split_of, kept_at}
 use Rattle.wf_model.specs.Sound.{IsLevel}
 use Rattle.wf_boxes.specs.declared.places.LevelBox.{LevelBox}
-use Rattle.wf_boxes.specs.Places.{cells_of}
-use Rattle.wf_model.specs.Kept.{IsSoundPatch, IsKeptCell}
+use Rattle.wf_model.specs.Kept.{IsSoundPatch}
 use Rattle.wf_model.specs.Kept.{kept_size, kept_place, level_kept, ShowsMemory}
 use Rattle.wf_patch_laws.proofs.KeptLists.{have_places}
 use Rattle.wf_field.specs.Kept.{AreLevelBoxes, AreZeros, IsMemory, box_at, no_box}
@@ -24,10 +23,10 @@ pub box_more :
 box_more P boxes x n long each one f h = elim (cases_lt f n) [
   | inl l ↦ subst (P f) (sym (get_or-append boxes (x ∷ []) no_box f (subst (λ (m : ℕ). f < m) (sym long) l))) (each f l)
   | inr g ↦
-  let is : n ≡ f = omega arith in
-  let at : length boxes + 0 ≡ f = omega arith in
-  let last : box_at (boxes ++ x ∷ []) f ≡ x = ap (box_at (boxes ++ x ∷ [])) (sym at) ∙ get_or-append-add boxes (x ∷ []) 0 no_box in
-  subst (λ (b : LevelBox). P f b) (sym last) (subst (λ (m : ℕ). P m x) is one)
+      let is : n ≡ f = omega arith in
+      let at : length boxes + 0 ≡ f = omega arith in
+      let last : box_at (boxes ++ x ∷ []) f ≡ x = ap (box_at (boxes ++ x ∷ [])) (sym at) ∙ get_or-append-add boxes (x ∷ []) 0 no_box in
+      subst (λ (b : LevelBox). P f b) (sym last) (subst (λ (m : ℕ). P m x) is one)
 ]
 
 module _ (plan : Plan) (layout : Layout) (d p : ℕ) (boxes bs : List LevelBox) (lists ls : List (List ℤ)) (sound : IsSoundPatch plan layout d p) (few : length plan.fields ≤ 64) (are : AreLevelBoxes plan (split_of layout) d p boxes)

@@ -7,11 +7,10 @@ use Rattle.std.proofs.lemmas.List.Sums.{fold-append}
 use Rattle.std.specs.Prelude.{ℤ, pos, ◌+ℤ◌, fold}
 use Rattle.wf_model.specs.declared.layout.Layout.{Layout}
 use Rattle.wf_model.specs.declared.plan.Plan.{Plan}
-use Rattle.wf_model.specs.Patches.{split_of, size_of, memory_box}
-use Rattle.wf_model.specs.Plans.{nz}
+use Rattle.wf_model.specs.Patches.{split_of}
 use Rattle.wf_boxes.specs.declared.places.LevelBox.{LevelBox}
 use Rattle.wf_boxes.specs.Places.{cells_of}
-use Rattle.wf_model.specs.Kept.{level_kept, kept_size}
+use Rattle.wf_model.specs.Kept.{level_kept}
 use Rattle.wf_field.specs.Kept.{IsMemory, AreModest, box_at}
 use Rattle.wf_field.proofs.Finding.{size_is, box_of}
 

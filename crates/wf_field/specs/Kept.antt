@@ -1,13 +1,15 @@
 -- A patch's memory as it is kept: the memory box of each level, and the list of its cells' numbers.
-use Rattle.std.specs.Prelude.{◌≡◌, ℕ, ◌^◌, ◌<◌, ◌≤◌, List, [], length, replicate, ℤ, pos}
+use Rattle.std.specs.Prelude.{◌≡◌, ℕ, ◌^◌, ◌<◌, ◌≤◌, List, length, replicate, ℤ, pos}
 use Rattle.std.specs.Prelude.{slice_index_or, false}
 use Rattle.wf_model.specs.declared.layout.Layout.{Layout}
 use Rattle.wf_model.specs.declared.plan.Plan.{Plan}
-use Rattle.wf_model.specs.Patches.{Split, split_of}
+use Rattle.wf_model.specs.Agreement.{IsOwnCell}
+use Rattle.wf_model.specs.PatchEffect.{Memory, Setting}
+use Rattle.wf_model.specs.Patches.{Split, Cell, split_of, kept_at}
 use Rattle.wf_model.specs.Sound.{IsLevel}
 use Rattle.wf_boxes.specs.declared.places.LevelBox.{LevelBox}
 use Rattle.wf_boxes.specs.Places.{IsLevelBox, cells_of}
-use Rattle.wf_model.specs.Kept.{IsSoundPatch}
+use Rattle.wf_model.specs.Kept.{IsSoundPatch, IsKeptCell, ShowsMemory, SetsExactly}
 use Rattle.wf_model.specs.Kept.{kept_size, level_kept}
 
 -- a patch's memory: its domain, from 1, its number, from 0, and the list of each level, from 0
@@ -65,3 +67,35 @@ pub record IsLevelOf (boxes : List LevelBox) (lists : List (List ℤ)) (f : ℕ)
 pub record AreModest (lists : List (List ℤ)) : Type 0 where
   pub few : length lists ≤ 64
   pub each : (f : ℕ) → f < length lists → length (level_kept lists f) ≤ 2 ^ 37
+
+-- ---- what is said of a memory, by the words for lists of a patch
+
+-- its patch keeps the cell
+abbrev pub Keeps : Plan → Layout → KeptMemory → Cell → Type 0
+Keeps plan layout m c = IsKeptCell plan (split_of layout) m.domain m.patch c
+
+-- its patch owns the cell
+abbrev pub Owns : Plan → Layout → KeptMemory → Cell → Type 0
+Owns plan layout m c = IsOwnCell plan (split_of layout) m.domain m.patch c
+
+-- the number of a cell
+abbrev pub number_in : Plan → Layout → KeptMemory → Memory
+number_in plan layout m = kept_at plan (split_of layout) m.domain m.patch m.levels
+
+-- its lists hold the function
+abbrev pub Shows : Plan → Layout → KeptMemory → Memory → Type 0
+Shows plan layout m f = ShowsMemory plan (split_of layout) m.domain m.patch m.levels f
+
+-- of the same patch
+pub record IsSamePatch (old new : KeptMemory) : Type 0 where
+  pub domain : new.domain ≡ old.domain
+  pub patch : new.patch ≡ old.patch
+
+-- the cells that a setting sets have its numbers, and all others their own
+abbrev pub Sets : Plan → Layout → Setting → KeptMemory → KeptMemory → Type 0
+Sets plan layout s old new =
+    SetsExactly plan (split_of layout) old.domain old.patch s old.levels new.levels
+
+-- the box is that of a level
+abbrev pub HasBox : Plan → Layout → KeptMemory → ℕ → LevelBox → Type 0
+HasBox plan layout m f b = IsLevelBox plan (split_of layout) m.domain m.patch f b

@@ -5,11 +5,12 @@ use Rattle.std.specs.List.{range_with_len}
 use Rattle.wf_rect.specs.declared.rects.Rect.{Rect}
 use Rattle.wf_rect.specs.declared.rects.Region.{Region}
 use Rattle.wf_rect.specs.Tiles.{count_between, rows_of}
+use Rattle.wf_model.specs.declared.layout.Layout.{Layout}
 use Rattle.wf_model.specs.declared.plan.Plan.{Plan}
-use Rattle.wf_model.specs.Kept.{IsKeptCell}
-use Rattle.wf_model.specs.Patches.{Split, Cell, in_box}
+use Rattle.wf_model.specs.Patches.{Cell, in_box}
 use Rattle.wf_model.specs.PatchEffect.{Setting}
 use Rattle.wf_boxes.specs.Boxes.{HasNearEnds, box_of}
+use Rattle.wf_field.specs.Kept.{KeptMemory, Keeps}
 use Rattle.wf_field.specs.Settings.{cell_at}
 use Rattle.wf_field.specs.Rows.{row_cells}
 
@@ -17,11 +18,12 @@ use Rattle.wf_field.specs.Rows.{row_cells}
 abbrev pub region_has : Region → ℕ → ℤ → ℤ → Bool
 region_has r k j i = (nat_le r.k0 k && nat_lt k r.k1) && in_box (box_of r.rect) j i
 
--- a region of a level within the memory of a patch: its ends are near, and its cells are kept
-pub record IsKeptRegion (plan : Plan) (split : Split) (d p f : ℕ) (r : Region) : Type 0 where
+-- a region of a level within a memory: its ends are near, and its patch keeps the cells
+pub record KeepsRegion (plan : Plan) (layout : Layout) (m : KeptMemory) (f : ℕ) (r : Region)
+    : Type 0 where
   pub ends : HasNearEnds r.rect
-  pub cells : (k : ℕ) (j i : ℤ) → IsTrue (region_has r k j i) →
-      IsKeptCell plan split d p (cell_at f k j i)
+  pub cells : (k : ℕ) (j i : ℤ) → IsTrue (region_has r k j i)
+      → Keeps plan layout m (cell_at f k j i)
 
 -- how many cells a row of a region has
 abbrev pub columns_of : Rect → ℕ
@@ -49,7 +51,7 @@ region_cells f r = planes_cells f r (r.k1 - r.k0)
 abbrev pub region_number : Region → List ℤ → Cell → ℤ
 region_number r values c =
     slice_index_or values (((c.k - r.k0) * rows_of r.rect + unsigned_abs (c.j -ℤ r.rect.j0))
-        * columns_of r.rect + unsigned_abs (c.i -ℤ r.rect.i0)) (pos 0)
+    * columns_of r.rect + unsigned_abs (c.i -ℤ r.rect.i0)) (pos 0)
 
 -- the cells of a level in a region are set to the first numbers of a list, in that order
 abbrev pub region_setting : ℕ → Region → List ℤ → Setting

@@ -1,16 +1,16 @@
 -- Rows of cells that are set, and lists of which some cells are set.
-use Rattle.std.specs.Prelude.{◌≡◌, ℕ, ◌+◌, ◌-◌, ◌*◌, ◌<◌, List, length, take, drop, ◌++◌, map}
-use Rattle.std.specs.Prelude.{flat_map, ℤ, pos, ◌+ℤ◌, ◌-ℤ◌, unsigned_abs, Some, slice_index_or}
+use Rattle.std.specs.Prelude.{◌≡◌, ℕ, ◌+◌, ◌<◌, List, length, take, drop, ◌++◌, map}
+use Rattle.std.specs.Prelude.{flat_map, ℤ, pos, ◌+ℤ◌, ◌-ℤ◌, unsigned_abs, slice_index_or}
 use Rattle.std.specs.Prelude.{if◌then◌else◌}
 use Rattle.std.specs.List.{range_with_len, list_any}
+use Rattle.wf_model.specs.declared.layout.Layout.{Layout}
 use Rattle.wf_model.specs.declared.plan.Plan.{Plan}
-use Rattle.wf_model.specs.Patches.{Split, Cell, kept_at}
-use Rattle.wf_model.specs.PatchEffect.{Setting}
+use Rattle.wf_model.specs.Patches.{Split, Cell, split_of, kept_at}
 use Rattle.wf_model.specs.Exchange.{same_cell}
 use Rattle.wf_boxes.specs.declared.places.LevelBox.{LevelBox}
 use Rattle.wf_boxes.specs.Places.{IsCellOf, place_of}
 use Rattle.wf_model.specs.Kept.{IsKeptCell, level_kept}
-use Rattle.wf_field.specs.Kept.{box_at}
+use Rattle.wf_field.specs.Kept.{KeptMemory, box_at}
 use Rattle.wf_field.specs.Settings.{cell_at}
 
 -- a list with other numbers from a place on
@@ -48,6 +48,11 @@ pub record SetsKept (plan : Plan) (split : Split) (d p : ℕ) (v : Cell → ℤ)
       kept_at plan split d p new c.field c.k c.j c.i
       ≡ (if list_any (same_cell c) cells then v c
       else kept_at plan split d p old c.field c.k c.j c.i)
+
+-- the same of a memory
+abbrev pub SetsEach : Plan → Layout → (Cell → ℤ) → List Cell → KeptMemory → KeptMemory → Type 0
+SetsEach plan layout v cells old new =
+    SetsKept plan (split_of layout) old.domain old.patch v cells old.levels new.levels
 
 -- the number of a cell of a row from i on
 abbrev pub row_number : ℤ → List ℤ → Cell → ℤ

@@ -1,5 +1,5 @@
 -- What the calls of a memory set, as settings of the definitions.
-use Rattle.std.specs.Prelude.{◌≡◌, ℕ, ◌==◌, nat_lt, List, ℤ, Some}
+use Rattle.std.specs.Prelude.{ℕ, ◌==◌, nat_lt, List, ℤ, Some}
 use Rattle.wf_model.specs.declared.plan.Plan.{Plan}
 use Rattle.wf_model.specs.Grids.{grid_from}
 use Rattle.wf_model.specs.Plans.{nx, ny, point_x, point_y}
@@ -7,7 +7,6 @@ use Rattle.wf_model.specs.Patches.{Cell}
 use Rattle.wf_model.specs.Exchange.{same_cell}
 use Rattle.wf_model.specs.PatchEffect.{Setting}
 use Rattle.wf_model.specs.Kept.{level_kept}
-use Rattle.wf_field.specs.Kept.{KeptMemory}
 
 -- the cell of a level at k, j and i
 abbrev pub cell_at : ℕ → ℕ → ℤ → ℤ → Cell
@@ -37,8 +36,3 @@ levels_setting plan d lists n = record {
   sets = λ f k j i. nat_lt f n;
   value = λ f k j i. Some (point_number plan d f (level_kept lists f) (cell_at f k j i));
 }
-
--- of the same patch
-pub record IsSamePatch (old new : KeptMemory) : Type 0 where
-  pub domain : new.domain ≡ old.domain
-  pub patch : new.patch ≡ old.patch

@@ -1,16 +1,15 @@
 //! The boxes and the lists that a patch's memory is made of.
 
 ghost use Rattle.std.specs.Prelude.{◌≡◌, ℕ, ◌^◌, ◌<◌, ◌≤◌, IfOk, length, replicate, slice_index_or};
-ghost use Rattle.std.specs.Prelude.{pos, vec_len, ◌-◌, ◌==◌, ◌||◌};
+ghost use Rattle.std.specs.Prelude.{pos, ◌-◌, ◌==◌, ◌||◌};
 ghost use Rattle.wf_model.specs.Outcome.{no_lists};
 ghost use Rattle.wf_model.specs.Patches.{split_of};
 ghost use Rattle.wf_model.specs.Plans.{begin_of};
-ghost use Rattle.wf_model.specs.Sound.{IsLevel};
-ghost use Rattle.wf_boxes.specs.Places.{IsLevelBox, IsNarrow, cells_of};
+ghost use Rattle.wf_boxes.specs.Places.{IsNarrow, cells_of};
 ghost use Rattle.wf_field.specs.Kept.{AreLevelBoxes, AreZeros, box_at};
 
 use std::alloc::{AllocError, Global};
-use wf_boxes::{Patch, LevelBox, level_box};
+use wf_boxes::{LevelBox, Patch, level_box};
 use wf_model::{Initial, List};
 
 /// The memory boxes of all levels of a patch.

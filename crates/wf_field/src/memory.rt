@@ -3,35 +3,30 @@
 ghost use Rattle.std.specs.Prelude.{◌≡◌, ℕ, ◌+◌, ◌-◌, ◌*◌, ◌<◌, ◌≤◌, All, IfOk, flat_map, fold};
 ghost use Rattle.std.specs.Prelude.{length, pos, ◌+ℤ◌};
 ghost use Rattle.wf_rect.specs.Tiles.{rows_of};
-ghost use Rattle.wf_boxes.specs.Boxes.{HasNearEnds, IsWide};
-ghost use Rattle.wf_boxes.specs.Places.{IsLevelBox};
-ghost use Rattle.wf_model.specs.Patches.{split_of, kept_at};
-ghost use Rattle.wf_model.specs.Plans.{field_of, nx, ny, nz};
+ghost use Rattle.wf_model.specs.Agreement.{IsPatch};
+ghost use Rattle.wf_model.specs.Core.{begin_patch};
+ghost use Rattle.wf_model.specs.Kept.{IsSoundPatch, level_kept};
 ghost use Rattle.wf_model.specs.PatchEffect.{swap_setting};
+ghost use Rattle.wf_model.specs.Plans.{field_of, nx, ny, nz};
 ghost use Rattle.wf_model.specs.Sound.{IsDomain, IsLevel, IsSoundLayout};
 ghost use Rattle.wf_model.specs.SoundRun.{IsSoundRun};
-ghost use Rattle.wf_model.specs.Agreement.{IsPatch, IsOwnCell};
-ghost use Rattle.wf_model.specs.Kept.{IsSoundPatch, IsKeptCell, ShowsMemory, SetsExactly};
-ghost use Rattle.wf_model.specs.Kept.{level_kept};
-ghost use Rattle.wf_field.specs.Settings.{IsSamePatch, cell_at, cell_setting, level_setting};
-ghost use Rattle.wf_field.specs.Settings.{levels_setting};
-ghost use Rattle.wf_model.specs.Core.{begin_patch};
+ghost use Rattle.wf_boxes.specs.Boxes.{HasNearEnds, IsWide};
+ghost use Rattle.wf_field.specs.Kept.{HasBox, IsSamePatch, Keeps, Owns, Sets, Shows, number_in};
+ghost use Rattle.wf_field.specs.Regions.{KeepsRegion, plane_cells, region_cells, region_number};
+ghost use Rattle.wf_field.specs.Regions.{region_setting, region_size};
+ghost use Rattle.wf_field.specs.Rows.{SetsEach, box_rows, row_cells, row_number};
+ghost use Rattle.wf_field.specs.Settings.{cell_at, cell_setting, level_setting, levels_setting};
 ghost use Rattle.wf_field.specs.Settings.{point_number};
 ghost use Rattle.wf_field.specs.Sources.{points_of};
-ghost use Rattle.wf_field.specs.Rows.{SetsKept, box_rows};
-ghost use Rattle.wf_field.specs.Regions.{IsKeptRegion, region_setting, region_size};
-ghost use Rattle.wf_field.specs.Regions.{plane_cells, region_cells};
-ghost use Rattle.wf_field.specs.Rows.{row_cells, row_number};
-ghost use Rattle.wf_field.specs.Regions.{region_number};
 
 use crate::making::{has_numbers, level_boxes, lists_of, zero_levels};
-use crate::numbers::{number_in, put_in};
+use crate::numbers::{number_of, put_in};
 use crate::rows::{moved, part, put_row_in};
 use crate::sources::{column, row};
 use crate::sums::{count_cells, sum_levels};
 use std::alloc::{AllocError, Global};
 use std::marker::{Model, PhantomData};
-use wf_boxes::{Patch, LevelBox, count};
+use wf_boxes::{LevelBox, Patch, count};
 use wf_model::{Initial, Layout, List, Plan, RunName};
 use wf_rect::Region;
 
@@ -76,8 +71,7 @@ impl<N: RunName> Memory<N> {
         requires patch { IsPatch N.layout patch }
         ensures domain { IfOk result (λ m. m.domain ≡ domain) }
         ensures patch { IfOk result (λ m. m.patch ≡ patch) }
-        ensures zeros { IfOk result (λ m.
-            ShowsMemory N.run.plan (split_of N.layout) domain patch m.levels (λ f k j i. pos 0)) }
+        ensures zeros { IfOk result (λ m. Shows N.run.plan N.layout m (λ f k j i. pos 0)) }
     {
         let place = Patch {
             plan,
@@ -115,8 +109,8 @@ impl<N: RunName> Memory<N> {
         requires patch { IsPatch N.layout patch }
         ensures domain { IfOk result (λ m. m.domain ≡ domain) }
         ensures patch { IfOk result (λ m. m.patch ≡ patch) }
-        ensures begins { IfOk result (λ m. ShowsMemory N.run.plan (split_of N.layout) domain patch
-            m.levels (begin_patch N.run N.layout domain patch).memory) }
+        ensures begins { IfOk result
+            (λ m. Shows N.run.plan N.layout m (begin_patch N.run N.layout domain patch).memory) }
     {
         let mut memory = Memory::new(alloc, plan, layout, domain, patch)?;
         if has_numbers(initial, domain) {
@@ -136,21 +130,18 @@ impl<N: RunName> Memory<N> {
     /// Its patch, from 0.
     pub fn patch(&self) -> u32
         ensures value { result ≡ self.now.patch }
-        ensures shown { ShowsMemory N.run.plan
-            (split_of N.layout) self.now.domain self.now.patch self.now.levels (kept_at N.run.plan
-            (split_of N.layout) self.now.domain self.now.patch self.now.levels) }
+        ensures shown { Shows N.run.plan N.layout self.now
+            (number_in N.run.plan N.layout self.now) }
     {
         self.patch
     }
 
     /// The number of a cell: of a level, from 0, at k, j and i, from 1 in the domain.
     pub fn get(&self, field: u32, k: u32, j: i64, i: i64) -> i32
-        requires { IsKeptCell N.run.plan (split_of N.layout) self.now.domain self.now.patch
-            (cell_at field k j i) }
-        ensures { result ≡ kept_at N.run.plan
-            (split_of N.layout) self.now.domain self.now.patch self.now.levels field k j i }
+        requires { Keeps N.run.plan N.layout self.now (cell_at field k j i) }
+        ensures { result ≡ number_in N.run.plan N.layout self.now field k j i }
     {
-        number_in(
+        number_of(
             self.boxes.as_slice(),
             self.levels.as_slice(),
             field,
@@ -163,11 +154,10 @@ impl<N: RunName> Memory<N> {
     /// Sets the number of an own cell, and no other one.
     pub fn set_own(&mut self, field: u32, k: u32, j: i64, i: i64, value: i32)
         requires level { IsLevel N.run.plan field }
-        requires own { IsOwnCell N.run.plan (split_of N.layout) self.old.domain self.old.patch
-            (cell_at field k j i) }
+        requires own { Owns N.run.plan N.layout self.old (cell_at field k j i) }
         ensures same { IsSamePatch self.old self.new }
-        ensures set { SetsExactly N.run.plan (split_of N.layout) self.old.domain self.old.patch
-            (cell_setting (cell_at field k j i) value) self.old.levels self.new.levels }
+        ensures set { Sets N.run.plan N.layout
+            (cell_setting (cell_at field k j i) value) self.old self.new }
     {
         put_in(
             self.boxes.as_slice(),
@@ -180,15 +170,14 @@ impl<N: RunName> Memory<N> {
         );
     }
 
-    /// Sets as many cells of a row of a level as there are numbers, from one on, and no others.
+    /// Sets as many cells of a row of a level as there are numbers, from `i` on, and no others.
     pub fn set_row(&mut self, field: u32, k: u32, j: i64, i: i64, values: &[i32])
         requires level { IsLevel N.run.plan field }
-        requires row { All (IsKeptCell N.run.plan (split_of N.layout) self.old.domain
-            self.old.patch) (row_cells field k j i (length values.now)) }
+        requires row { All (Keeps N.run.plan N.layout self.old)
+            (row_cells field k j i (length values.now)) }
         ensures same { IsSamePatch self.old self.new }
-        ensures set { SetsKept N.run.plan (split_of N.layout) self.old.domain self.old.patch
-            (row_number i values.now)
-            (row_cells field k j i (length values.now)) self.old.levels self.new.levels }
+        ensures set { SetsEach N.run.plan N.layout (row_number i values.now)
+            (row_cells field k j i (length values.now)) self.old self.new }
     {
         if values.is_empty() {
             return;
@@ -204,18 +193,16 @@ impl<N: RunName> Memory<N> {
         );
     }
 
-    /// Sets the cells of a plane of a region to their numbers.
+    /// Sets the cells of a region at its k of number `a`, from 0, to their numbers of the scratch.
     fn commit_plane(&mut self, field: u32, region: Region, a: u32, scratch: &[i32])
         requires level { IsLevel N.run.plan field }
         requires plane { a < region.k1 - region.k0 }
         requires near { HasNearEnds region.rect }
-        requires cells { All (IsKeptCell N.run.plan
-            (split_of N.layout) self.old.domain self.old.patch) (region_cells field region) }
+        requires cells { All (Keeps N.run.plan N.layout self.old) (region_cells field region) }
         requires scratch { length (region_cells field region) ≤ length scratch.now }
         ensures same { IsSamePatch self.old self.new }
-        ensures set { SetsKept N.run.plan (split_of N.layout) self.old.domain self.old.patch
-            (region_number region scratch.now) (plane_cells field (region.k0 + a) region.rect
-            (rows_of region.rect)) self.old.levels self.new.levels }
+        ensures set { SetsEach N.run.plan N.layout (region_number region scratch.now) (plane_cells
+            field (region.k0 + a) region.rect (rows_of region.rect)) self.old self.new }
     {
         let rect = region.rect;
         let rows = count(rect.j0, rect.j1);
@@ -228,15 +215,14 @@ impl<N: RunName> Memory<N> {
     }
 
     /// Sets the cells of a region of a level to the first numbers of the scratch, in order k, j, i,
-    /// and no others.
+    /// and no others. The patch keeps all of them; an empty region has near ends too.
     pub fn commit(&mut self, field: u32, region: Region, scratch: &[i32])
         requires level { IsLevel N.run.plan field }
-        requires region { IsKeptRegion N.run.plan (split_of N.layout)
-            self.old.domain self.old.patch field region }
+        requires region { KeepsRegion N.run.plan N.layout self.old field region }
         requires scratch { region_size region ≤ length scratch.now }
         ensures same { IsSamePatch self.old self.new }
-        ensures set { SetsExactly N.run.plan (split_of N.layout) self.old.domain self.old.patch
-            (region_setting field region scratch.now) self.old.levels self.new.levels }
+        ensures set { Sets N.run.plan N.layout
+            (region_setting field region scratch.now) self.old self.new }
     {
         for a in 0..region.k1.saturating_sub(region.k0) {
             self.commit_plane(field, region, a, scratch);
@@ -247,16 +233,14 @@ impl<N: RunName> Memory<N> {
     fn fill_row(&mut self, field: u32, bounds: &LevelBox, k: u32, j: i64, values: &[i32])
         requires sound { IsSoundPatch N.run.plan N.layout self.old.domain self.old.patch }
         requires level { IsLevel N.run.plan field }
-        requires bounds { IsLevelBox N.run.plan
-            (split_of N.layout) self.old.domain self.old.patch field bounds.now }
+        requires bounds { HasBox N.run.plan N.layout self.old field bounds.now }
         requires values { length values.now ≡ points_of bounds.now }
         requires wide { IsWide j }
-        requires row { All (IsKeptCell N.run.plan (split_of N.layout) self.old.domain
-            self.old.patch) (row_cells field k j bounds.now.west bounds.now.columns) }
+        requires row { All (Keeps N.run.plan N.layout self.old)
+            (row_cells field k j bounds.now.west bounds.now.columns) }
         ensures same { IsSamePatch self.old self.new }
-        ensures set { SetsKept N.run.plan (split_of N.layout) self.old.domain self.old.patch
-            (point_number N.run.plan self.old.domain field values.now) (row_cells field k j
-            bounds.now.west bounds.now.columns) self.old.levels self.new.levels }
+        ensures set { SetsEach N.run.plan N.layout (point_number N.run.plan self.old.domain field
+            values.now) (row_cells field k j bounds.now.west bounds.now.columns) self.old self.new }
     {
         let mut x = 0;
         while x < bounds.columns {
@@ -270,18 +254,16 @@ impl<N: RunName> Memory<N> {
         }
     }
 
-    /// Sets the cells of a plane of a level so.
+    /// Sets the cells of a level at one k to the numbers of the points that they stand for.
     fn fill_plane(&mut self, field: u32, bounds: &LevelBox, k: u32, values: &[i32])
         requires sound { IsSoundPatch N.run.plan N.layout self.old.domain self.old.patch }
         requires level { IsLevel N.run.plan field }
-        requires bounds { IsLevelBox N.run.plan
-            (split_of N.layout) self.old.domain self.old.patch field bounds.now }
+        requires bounds { HasBox N.run.plan N.layout self.old field bounds.now }
         requires values { length values.now ≡ points_of bounds.now }
         requires plane { (1 ≤ k) × (k ≤ bounds.now.levels) }
         ensures same { IsSamePatch self.old self.new }
-        ensures set { SetsKept N.run.plan (split_of N.layout) self.old.domain self.old.patch
-            (point_number N.run.plan self.old.domain field values.now)
-            (box_rows field bounds.now k bounds.now.rows) self.old.levels self.new.levels }
+        ensures set { SetsEach N.run.plan N.layout (point_number N.run.plan self.old.domain field
+            values.now) (box_rows field bounds.now k bounds.now.rows) self.old self.new }
     {
         for y in 0..bounds.rows {
             self.fill_row(field, bounds, k, moved(bounds.south, y), values);
@@ -295,9 +277,8 @@ impl<N: RunName> Memory<N> {
         requires values { length values.now ≡ nz N.run.plan field
             * (ny N.run.plan self.old.domain field * nx N.run.plan self.old.domain field) }
         ensures same { IsSamePatch self.old self.new }
-        ensures set { SetsExactly N.run.plan (split_of N.layout) self.old.domain self.old.patch
-            (level_setting N.run.plan self.old.domain field values.now) self.old.levels
-            self.new.levels }
+        ensures set { Sets N.run.plan N.layout
+            (level_setting N.run.plan self.old.domain field values.now) self.old self.new }
     {
         let bounds = self.boxes.as_slice()[field as usize];
         for k in 0..bounds.levels {
@@ -305,16 +286,15 @@ impl<N: RunName> Memory<N> {
         }
     }
 
-    /// Sets all cells of all levels so.
+    /// Sets all cells of all levels to the numbers of the points that they stand for.
     fn fill_levels(&mut self, lists: &[List<i32>])
         requires levels { length lists.now ≡ length N.run.plan.fields }
         requires few { length lists.now ≤ 64 }
         requires lists { (f : ℕ) → f < length lists.now → length (level_kept lists.now f) ≡ nz
             N.run.plan f * (ny N.run.plan self.old.domain f * nx N.run.plan self.old.domain f) }
         ensures same { IsSamePatch self.old self.new }
-        ensures set { SetsExactly N.run.plan (split_of N.layout) self.old.domain self.old.patch
-            (levels_setting N.run.plan self.old.domain lists.now (length lists.now)) self.old.levels
-            self.new.levels }
+        ensures set { Sets N.run.plan N.layout (levels_setting N.run.plan self.old.domain lists.now
+            (length lists.now)) self.old self.new }
     {
         for field in 0..lists.len() as u32 {
             self.fill(field, lists[field as usize].as_slice());
@@ -326,9 +306,8 @@ impl<N: RunName> Memory<N> {
         requires level { IsLevel N.run.plan one }
         requires pair { (field_of N.run.plan one).pair ≡ two }
         ensures same { IsSamePatch self.old self.new }
-        ensures set { SetsExactly N.run.plan (split_of N.layout) self.old.domain self.old.patch
-            (swap_setting one two (kept_at N.run.plan (split_of N.layout) self.old.domain
-            self.old.patch self.old.levels)) self.old.levels self.new.levels }
+        ensures set { Sets N.run.plan N.layout
+            (swap_setting one two (number_in N.run.plan N.layout self.old)) self.old self.new }
     {
         self.levels.as_mut_slice().swap(one as usize, two as usize);
     }

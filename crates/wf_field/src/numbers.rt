@@ -1,6 +1,6 @@
 //! The numbers of levels, read and set by cell.
 
-ghost use Rattle.std.specs.Prelude.{◌≡◌, ◌<◌, length, slice_index_or, slice_set, pos};
+ghost use Rattle.std.specs.Prelude.{◌≡◌, length, slice_index_or, slice_set, pos};
 ghost use Rattle.wf_boxes.specs.Places.{IsCellOf, cells_of, place_of};
 ghost use Rattle.wf_model.specs.Kept.{level_kept};
 ghost use Rattle.wf_field.specs.Kept.{IsLevelOf, box_at};
@@ -18,7 +18,7 @@ fn number_at(bounds: &LevelBox, list: &[i32], k: u32, j: i64, i: i64) -> i32
 }
 
 /// The number of a cell of a level.
-pub(crate) fn number_in(
+pub(crate) fn number_of(
     boxes: &[LevelBox],
     levels: &[List<i32>],
     field: u32,

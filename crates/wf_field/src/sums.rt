@@ -1,7 +1,6 @@
 //! How many numbers the levels of a memory have, and their sum.
 
-ghost use Rattle.std.specs.Prelude.{◌≡◌, ℕ, ◌*◌, ◌^◌, ◌<◌, ◌≤◌, flat_map, fold, length, pos, ◌+ℤ◌};
-ghost use Rattle.std.specs.Prelude.{◌≤ℤ◌};
+ghost use Rattle.std.specs.Prelude.{◌≡◌, ◌*◌, ◌^◌, ◌≤◌, flat_map, fold, length, pos, ◌+ℤ◌};
 ghost use Rattle.wf_field.specs.Kept.{AreModest};
 ghost use Rattle.wf_field.specs.Sums.{IsWithinSum};
 

@@ -1,4 +1,4 @@
-use Rattle.std.proofs.Common.{rules, sym, subst, arith, List, ◌≡◌, length}
+use Rattle.std.proofs.Common.{rules, sym, subst, List}
 use Rattle.wf_model.specs.Patches.{split_of}
 use Rattle.wf_boxes.specs.declared.places.LevelBox.{LevelBox}
 use Rattle.wf_boxes.specs.Places.{IsLevelBox}

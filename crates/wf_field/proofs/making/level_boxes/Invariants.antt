@@ -1,4 +1,4 @@
-use Rattle.std.proofs.Common.{◌≡◌, ℕ, ◌<◌, vec_len, length}
+use Rattle.std.proofs.Common.{◌≡◌, ℕ, ◌<◌, length}
 use Rattle.wf_model.specs.Patches.{split_of}
 use Rattle.wf_boxes.specs.Places.{IsLevelBox}
 use Rattle.wf_field.specs.Kept.{box_at}

@@ -1,4 +1,4 @@
-use Rattle.std.proofs.Common.{◌≡◌, set, ◌∙◌, w64, w32}
+use Rattle.std.proofs.Common.{set, ◌∙◌, w64, w32}
 use Rattle.std.proofs.lemmas.Int.{to_z-of_z}
 use Rattle.wf_boxes.specs.Places.{place_of}
 use Rattle.wf_field.specs.Kept.{box_at}

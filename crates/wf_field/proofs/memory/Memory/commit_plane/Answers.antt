@@ -1,11 +1,10 @@
-use Rattle.std.proofs.Common.{◌≡◌, ℕ, ◌+◌, ◌*◌, ◌≤◌, ◌<◌, List, length, get_or, sym, ap, subst, ◌∙◌, All, w64, rules, arith}
+use Rattle.std.proofs.Common.{◌≡◌, ℕ, ◌+◌, ◌*◌, ◌≤◌, ◌<◌, length, get_or, sym, ap, subst, ◌∙◌, All, w64, rules, arith}
 use Rattle.std.proofs.lemmas.Int.{to_z-of_z}
 use Rattle.std.specs.Prelude.{ℤ, pos, ◌+ℤ◌}
-use Rattle.wf_model.specs.Patches.{Cell, split_of}
+use Rattle.wf_model.specs.Patches.{split_of}
 use Rattle.wf_rect.specs.Tiles.{rows_of}
 use Rattle.wf_rect.proofs.Stored.{count_of}
 use Rattle.wf_model.specs.Kept.{IsKeptCell}
-use Rattle.wf_field.specs.Settings.{IsSamePatch}
 use Rattle.wf_field.specs.Rows.{SetsKept}
 use Rattle.wf_field.specs.Regions.{columns_of, plane_cells, region_cells, region_number}
 use Rattle.wf_field.proofs.Joining.{kept_patch}

@@ -1,11 +1,9 @@
-use Rattle.std.proofs.Common.{◌≡◌, ℕ, List, sym, ap, subst, ◌∙◌, arith}
-use Rattle.std.specs.Prelude.{ℤ}
+use Rattle.std.proofs.Common.{◌≡◌, ℕ, List, sym, subst, ◌∙◌, arith}
 use Rattle.wf_model.specs.Patches.{split_of}
 use Rattle.wf_boxes.specs.declared.places.LevelBox.{LevelBox}
 use Rattle.wf_boxes.specs.Places.{IsLevelBox}
-use Rattle.wf_model.specs.Kept.{SetsExactly}
 use Rattle.wf_field.specs.Kept.{KeptMemory, box_at}
-use Rattle.wf_field.specs.Settings.{point_number, level_setting}
+use Rattle.wf_field.specs.Settings.{point_number}
 use Rattle.wf_field.specs.Rows.{SetsKept, box_planes}
 use Rattle.wf_field.proofs.Filling.{planes_step, filled, points_patch}
 use Rattle.wf_field.proofs.memory.Memory.fill.Goals as goal

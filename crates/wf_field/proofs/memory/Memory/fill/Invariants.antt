@@ -1,5 +1,6 @@
 use Rattle.wf_model.specs.Patches.{split_of}
-use Rattle.wf_field.specs.Settings.{IsSamePatch, point_number}
+use Rattle.wf_field.specs.Kept.{IsSamePatch}
+use Rattle.wf_field.specs.Settings.{point_number}
 use Rattle.wf_field.specs.Rows.{SetsKept, box_planes}
 use Rattle.wf_field.proofs.memory.Memory.fill.Given as goal
 

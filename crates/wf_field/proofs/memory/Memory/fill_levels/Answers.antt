@@ -1,9 +1,7 @@
-use Rattle.std.proofs.Common.{◌≡◌, ◌<◌, ◌∙◌, ℕ, [], subst, sym, arith}
+use Rattle.std.proofs.Common.{◌<◌, ◌∙◌, ℕ, [], subst}
 use Rattle.std.proofs.lemmas.List.{get_or_read}
-use Rattle.wf_model.specs.Kept.{SetsExactly}
 use Rattle.wf_model.specs.Patches.{split_of}
-use Rattle.wf_field.specs.Settings.{level_setting, levels_setting}
-use Rattle.wf_field.proofs.Beginning.{none_filled, level_more, exact_patch}
+use Rattle.wf_field.proofs.Beginning.{level_more, exact_patch}
 use Rattle.wf_field.proofs.memory.Memory.fill_levels.Goals as goal
 
 pub fill-requires-clause-level : goal.fill-requires-clause-level

@@ -1,6 +1,7 @@
 use Rattle.wf_model.specs.Patches.{split_of}
 use Rattle.wf_model.specs.Kept.{SetsExactly}
-use Rattle.wf_field.specs.Settings.{IsSamePatch, levels_setting}
+use Rattle.wf_field.specs.Kept.{IsSamePatch}
+use Rattle.wf_field.specs.Settings.{levels_setting}
 use Rattle.wf_field.proofs.memory.Memory.fill_levels.Given as goal
 
 abbrev pub invariant-loop-field : goal.invariant-loop-field

@@ -1,8 +1,8 @@
-use Rattle.std.proofs.Common.{◌≡◌, ℕ, ◌+◌, ◌-◌, ◌*◌, ◌≤◌, ◌<◌, List, length, get_or, refl, sym, ap, subst, ◌∙◌, All, w64, to_z, of_z, rules, arith}
-use Rattle.std.proofs.lemmas.Int.{ints, to_z-of_z}
+use Rattle.std.proofs.Common.{◌≡◌, ℕ, ◌+◌, ◌-◌, ◌*◌, length, refl, sym, ap, subst, ◌∙◌, All, w64, to_z, of_z, rules, arith}
+use Rattle.std.proofs.lemmas.Int.{to_z-of_z}
 use Rattle.std.specs.Prelude.{ℤ, pos, ◌+ℤ◌}
 use Rattle.wf_model.specs.Plans.{wrapped}
-use Rattle.wf_model.specs.Patches.{Cell, split_of}
+use Rattle.wf_model.specs.Patches.{split_of}
 use Rattle.wf_model.specs.Kept.{IsKeptCell}
 use Rattle.wf_field.specs.Settings.{cell_at, point_number}
 use Rattle.wf_field.specs.Rows.{SetsKept, row_cells}

@@ -1,6 +1,7 @@
 use Rattle.std.proofs.Common.{◌-◌, ◌≤◌}
 use Rattle.wf_model.specs.Patches.{split_of}
-use Rattle.wf_field.specs.Settings.{IsSamePatch, point_number}
+use Rattle.wf_field.specs.Kept.{IsSamePatch}
+use Rattle.wf_field.specs.Settings.{point_number}
 use Rattle.wf_field.specs.Rows.{SetsKept, row_cells}
 use Rattle.wf_field.proofs.memory.Memory.fill_row.Given as goal
 

@@ -1,4 +1,4 @@
-use Rattle.std.proofs.Common.{◌≡◌, List, length, take, drop, ◌++◌, sym, subst, ◌∙◌, w64, w32, rules}
+use Rattle.std.proofs.Common.{List, length, take, drop, ◌++◌, sym, subst, w64, w32}
 use Rattle.std.proofs.lemmas.Int.{to_z-of_z}
 use Rattle.std.specs.Prelude.{ℤ}
 use Rattle.wf_model.specs.Patches.{Cell, split_of}

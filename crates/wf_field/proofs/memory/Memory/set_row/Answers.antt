@@ -1,4 +1,4 @@
-use Rattle.std.proofs.Common.{◌≡◌, ◌<◌, List, length, take, drop, ◌++◌, sym, subst, ◌∙◌, All, w64, rules, arith}
+use Rattle.std.proofs.Common.{◌<◌, List, length, take, drop, ◌++◌, sym, subst, All, w64, rules}
 use Rattle.std.proofs.lemmas.Int.{to_z-of_z}
 use Rattle.std.specs.Prelude.{ℤ}
 use Rattle.wf_model.specs.Patches.{split_of}
