@@ -1,6 +1,6 @@
 -- The parts of an item.
-use Rattle.std.proofs.Common.{◌≡◌, ℕ, ◌<◌, Bool, true, false, List, [], ◌∷◌, ◌++◌, length, flat_map, refl, ap, ◌∙◌}
-use Rattle.std.specs.Prelude.{filter, ◌==◌, if◌then◌else◌}
+use Rattle.std.proofs.Common.{◌≡◌, ℕ, ◌<◌, List, [], length, refl, ap, ◌∙◌}
+use Rattle.std.specs.Prelude.{filter, ◌==◌}
 use Rattle.wf_model.specs.declared.layout.Layout.{Layout}
 use Rattle.wf_model.specs.declared.plan.Plan.{Plan}
 use Rattle.wf_model.specs.declared.plan.HaloPart.{HaloPart}
@@ -20,21 +20,10 @@ use Rattle.wf_model.specs.Shapes.{cell_owner, fetched_cells, halo_cells, period_
 use Rattle.wf_model.specs.Sound.{IsDomain, IsLevel, IsSoundHaloPart, IsSoundItem, IsSoundLayout}
 use Rattle.wf_model.specs.SoundRun.{IsSoundRun}
 use Rattle.wf_laws.proofs.Members.{In, All-In, In-All, In-get_or}
+use Rattle.wf_halo.proofs.Lists.{filter-flat_map}
 use Rattle.wf_halo.specs.declared.parts.Between.{Between}
 use Rattle.wf_halo.specs.Exchange.{AreLinked, halo_list, item_cells, period_list}
 use Rattle.wf_halo.specs.Parts.{IsLink, around}
-
-filter-append : {X : Type 0} (p : X → Bool) (xs ys : List X) → filter p (xs ++ ys) ≡ filter p xs ++ filter p ys
-filter-append p [] ys = refl
-filter-append p (x ∷ xs) ys = by (p x) (filter-append p xs ys)
-  where
-    by : (b : Bool) → filter p (xs ++ ys) ≡ filter p xs ++ filter p ys → (if b then x ∷ filter p (xs ++ ys) else filter p (xs ++ ys)) ≡ (if b then x ∷ filter p xs else filter p xs) ++ filter p ys
-    by true e = ap (λ zs. x ∷ zs) e
-    by false e = e
-
-filter-flat_map : {X Y : Type 0} (p : Y → Bool) (f : X → List Y) (xs : List X) → filter p (flat_map f xs) ≡ flat_map (λ x. filter p (f x)) xs
-filter-flat_map p f [] = refl
-filter-flat_map p f (x ∷ xs) = filter-append p (f x) (flat_map f xs) ∙ ap (λ ys. filter p (f x) ++ ys) (filter-flat_map p f xs)
 
 module _ (plan : Plan) (layout : Layout) (b : Between) where
   pub halo_items : (parts : List HaloPart) → item_cells plan layout b (item.Halo parts) ≡ halo_list plan layout b parts

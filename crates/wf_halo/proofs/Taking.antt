@@ -18,7 +18,8 @@ use Rattle.wf_field.proofs.Joining.{both_kept, cells_kept, numbers_kept, kept_pa
 use Rattle.wf_halo.specs.declared.parts.Part.{Part}
 use Rattle.wf_halo.specs.Parts.{is_sent}
 use Rattle.wf_halo.specs.Walks.{Begins, KeepsCells, SetsBy, sent}
-use Rattle.wf_halo.proofs.Walking.{sent_yes, alone}
+use Rattle.wf_halo.proofs.Lists.{alone}
+use Rattle.wf_halo.proofs.Walking.{sent_yes}
 
 pub length-map : {X Y : Type 0} (f : X → Y) (xs : List X) → length (map f xs) ≡ length xs
 length-map f [] = refl

@@ -1,5 +1,8 @@
 -- Tests that are made one after the other.
 use Rattle.std.proofs.Common.{◌≡◌, Bool, true, false, refl, sym, ap, ◌∙◌, arith}
+use Rattle.std.proofs.lemmas.Int.{ints, clamps}
+use Rattle.std.specs.Int.{int_max, int_min}
+use Rattle.wf_boxes.specs.Boxes.{IsNear}
 use Rattle.std.specs.Prelude.{ℤ, not, ◌&&◌, ◌||◌, if◌then◌else◌}
 use Rattle.wf_model.specs.Patches.{Box}
 
@@ -49,3 +52,10 @@ box_by a b c d = record { x = record { low = a; high = b }; y = record { low = c
 
 pub same_box : {a b x y c d z w : ℤ} → a ≡ x → b ≡ y → c ≡ z → d ≡ w → box_by a b c d ≡ box_by x y z w
 same_box p q r s = λ n. box_by (p n) (q n) (r n) (s n)
+
+-- the greater and the lesser of two near numbers are near
+pub near_max : (a b : ℤ) → IsNear a → IsNear b → IsNear (int_max a b)
+near_max a b p q = (omega (arith, ints, clamps, p.0, p.1, q.0, q.1), omega (arith, ints, clamps, p.0, p.1, q.0, q.1))
+
+pub near_min : (a b : ℤ) → IsNear a → IsNear b → IsNear (int_min a b)
+near_min a b p q = (omega (arith, ints, clamps, p.0, p.1, q.0, q.1), omega (arith, ints, clamps, p.0, p.1, q.0, q.1))

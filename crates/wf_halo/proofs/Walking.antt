@@ -1,16 +1,17 @@
 -- The cells of a part, walked row by row.
-use Rattle.std.proofs.Common.{◌≡◌, ℕ, ◌+◌, ◌<◌, Bool, true, false, List, [], ◌∷◌, ◌++◌, length, get_or, take, map, flat_map, append_assoc, refl, sym, ap, subst, ◌∙◌, arith}
+use Rattle.std.proofs.Common.{◌≡◌, ℕ, ◌+◌, ◌<◌, true, false, List, [], ◌∷◌, ◌++◌, length, get_or, take, map, flat_map, append_assoc, sym, ap, subst, ◌∙◌, arith}
 use Rattle.std.proofs.lemmas.Int.{ints}
 use Rattle.std.proofs.lemmas.List.{map-append, take_more}
 use Rattle.std.proofs.lemmas.Grind.{flat_map-append}
 use Rattle.std.proofs.lemmas.List.FromFn.{map-range_with_len_more}
-use Rattle.std.specs.Prelude.{ℤ, pos, ◌+ℤ◌, ◌≤ℤ◌, ◌<ℤ◌, filter, if◌then◌else◌}
+use Rattle.std.specs.Prelude.{ℤ, pos, ◌+ℤ◌, ◌≤ℤ◌, ◌<ℤ◌, if◌then◌else◌}
 use Rattle.wf_model.specs.Patches.{Cell, in_span}
 use Rattle.wf_model.specs.PatchEffect.{Memory}
 use Rattle.wf_laws.proofs.Spans.{span-low, span-high}
 use Rattle.wf_boxes.specs.Boxes.{IsNear, IsWide}
 use Rattle.wf_field.specs.Settings.{cell_at}
 use Rattle.wf_field.specs.Rows.{row_cells}
+use Rattle.wf_halo.proofs.Lists.{alone, filter-append}
 use Rattle.wf_halo.specs.declared.parts.Part.{Part}
 use Rattle.wf_halo.specs.Parts.{IsPlaceOf, is_sent}
 use Rattle.wf_halo.specs.Walks.{IsWalked, IsRowOf, IsColumnOf, sent, sent_number, sent_numbers}
@@ -41,21 +42,8 @@ sent_yes p c h = λ n. if h n then c ∷ [] else []
 pub sent_no : (p : Part) (c : Cell) → is_sent p c.j c.i ≡ false → sent p (c ∷ []) ≡ []
 sent_no p c h = λ n. if h n then c ∷ [] else []
 
-filter-append : {X : Type 0} (p : X → Bool) (xs ys : List X) → filter p (xs ++ ys) ≡ filter p xs ++ filter p ys
-filter-append p [] ys = refl
-filter-append p (x ∷ xs) ys = by (p x) (filter-append p xs ys)
-  where
-    by : (b : Bool) → filter p (xs ++ ys) ≡ filter p xs ++ filter p ys → (if b then x ∷ filter p (xs ++ ys) else filter p (xs ++ ys)) ≡ (if b then x ∷ filter p xs else filter p xs) ++ filter p ys
-    by true e = ap (λ zs. x ∷ zs) e
-    by false e = e
-
 pub sent-append : (p : Part) (xs ys : List Cell) → sent p (xs ++ ys) ≡ sent p xs ++ sent p ys
 sent-append p xs ys = filter-append (λ (c : Cell). is_sent p c.j c.i) xs ys
-
--- a list of numbers, and none behind it
-pub alone : {X : Type 0} (xs : List X) → xs ++ [] ≡ xs
-alone [] = refl
-alone (x ∷ xs) = ap (λ ys. x ∷ ys) (alone xs)
 
 -- the numbers of some cells, and of others behind them
 pub numbers_more : (N : Cell → ℤ) (xs ys zs : List Cell) (old mid new : List ℤ) → zs ≡ xs ++ ys → mid ≡ old ++ map N xs → new ≡ mid ++ map N ys → new ≡ old ++ map N zs

@@ -14,7 +14,6 @@ use Rattle.wf_model.specs.Exchange.{Letter}
 use Rattle.wf_model.specs.Held.{numbers_at}
 use Rattle.wf_model.specs.Outcome.{RunData, script, entry_at}
 use Rattle.wf_model.specs.Patches.{Cell, split_of}
-use Rattle.wf_model.specs.Plans.{item_of}
 use Rattle.wf_model.specs.Shapes.{cell_owner, fetched_cells, grid_cell}
 use Rattle.wf_model.specs.Sound.{IsLevel}
 use Rattle.wf_field.specs.Kept.{KeptMemory, number_in}
@@ -29,21 +28,13 @@ HoldsOwnNumbers r layout place m =
     → cell_number (number_in r.plan layout m) c
     ≡ grid_cell r.plan m.domain (numbers_at r layout place) c
 
--- the item is a halo or a period
-abbrev pub IsFetching : Item → Type 0
-IsFetching (item.Halo parts) = Unit {0}
-IsFetching (item.Period parts) = Unit {0}
-IsFetching (item.Swap one two) = ⊥
-IsFetching (item.Phase ph) = ⊥
-
--- the item at a place of the script is a halo or a period of a domain
+-- a place of the script has an item of the table, of a domain. Of these halos and periods send
 pub record IsExchange (r : RunData) (place d : ℕ) : Type 0 where
   pub within : place < length (script r)
   pub domain : (entry_at r place).domain ≡ d
   pub number : ℕ
   pub act : (entry_at r place).act ≡ Table number
   pub item : number < length (r.plan).items
-  pub fetching : IsFetching (item_of r.plan number)
 
 -- a message of a place, from a patch to another. Its type keeps that its numbers are the run's
 pub record IsMessage (place from to : ℕ) (m : Letter) : Type 0 where

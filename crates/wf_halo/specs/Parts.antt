@@ -6,7 +6,8 @@ use Rattle.wf_model.specs.declared.plan.Plan.{Plan}
 use Rattle.wf_model.specs.declared.plan.HaloPart.{HaloPart}
 use Rattle.wf_model.specs.declared.plan.PeriodPart.{PeriodPart}
 use Rattle.wf_model.specs.Plans.{domain_of, nx, ny, nz, wrapped}
-use Rattle.wf_model.specs.Patches.{Split, Span, Cell, in_span, in_box, grown_box, own_box}
+use Rattle.std.specs.Int.{int_max, int_min}
+use Rattle.wf_model.specs.Patches.{Split, Span, Box, Cell, in_span, in_box, grown_box, own_box}
 use Rattle.wf_model.specs.Patches.{reached_box}
 use Rattle.wf_model.specs.Agreement.{IsPatch}
 use Rattle.wf_model.specs.Outcome.{RunData}
@@ -68,6 +69,20 @@ pub record IsLink (r : RunData) (layout : Layout) (b : Between) (x : HaloPart) :
   pub level : IsLevel r.plan x.field
   pub small : x.radius ≤ 6
 
+-- what both boxes have
+abbrev pub shared_box : Box → Box → Box
+shared_box a b = record {
+  x = record { low = int_max a.x.low b.x.low; high = int_min a.x.high b.x.high };
+  y = record { low = int_max a.y.low b.y.low; high = int_min a.y.high b.y.high };
+}
+
+-- the cells that are walked: those that the receiver reaches, and of a halo the sender's own of
+-- them
+abbrev pub walked_box : Plan → Split → ℕ → ℕ → ℕ → HaloPart → Bool → Box
+walked_box plan split d to from x outside =
+    let reached = reached_box plan split d to x.field x.radius x.radius in
+    if outside then reached else shared_box reached (own_box plan split d from x.field)
+
 -- the part of a halo, or with `outside` of a period of that width, between two patches
 pub record IsPart (plan : Plan) (split : Split) (d to from : ℕ) (x : HaloPart) (outside : Bool)
     (p : Part) : Type 0 where
@@ -83,7 +98,7 @@ pub record IsPart (plan : Plan) (split : Split) (d to from : ℕ) (x : HaloPart)
   pub periodic_y : p.periodic_y ≡ (domain_of plan d).periodic_y
   pub to_box : box_of p.to ≡ own_box plan split d to x.field
   pub from_box : box_of p.from ≡ own_box plan split d from x.field
-  pub box : box_of p.cells.rect ≡ reached_box plan split d to x.field x.radius x.radius
+  pub box : box_of p.cells.rect ≡ walked_box plan split d to from x outside
   pub first : p.cells.k0 ≡ 1
   pub last : p.cells.k1 ≡ nz plan x.field + 1
   pub near : HasNearEnds p.to

@@ -1,15 +1,15 @@
 //! The cells that a part of a halo or a period brings from one patch to another.
 
-ghost use Rattle.std.specs.Prelude.{◌≡◌, ◌≤◌, ◌||◌, ◌+ℤ◌, IsTrue, pos};
+ghost use Rattle.std.specs.Prelude.{◌≡◌, ◌≤◌, ◌||◌, ◌+ℤ◌, IsTrue, pos, if◌then◌else◌};
 ghost use Rattle.wf_model.specs.Patches.{grown_box, in_box, in_span, split_of};
 ghost use Rattle.wf_model.specs.Sound.{IsLevel};
 ghost use Rattle.wf_boxes.specs.Boxes.{HasNearEnds, IsNear, IsWide, box_of};
 ghost use Rattle.wf_halo.specs.Parts.{IsLink, IsPart, IsPlaceOf, around, column_of, is_around};
-ghost use Rattle.wf_halo.specs.Parts.{is_fetched, is_inside, is_sent, row_of, whole};
+ghost use Rattle.wf_halo.specs.Parts.{is_fetched, is_inside, is_sent, row_of, shared_box, whole};
 
 use wf_boxes::{Patch, own_box, point_of, reached_box};
 use wf_model::{HaloPart, PeriodPart, Run, RunName};
-use wf_rect::{Rect, Region};
+use wf_rect::{Rect, Region, meet};
 
 /// A part of a halo or a period, between a receiver and a sender: its field level, the cells that
 /// the receiver reaches, and the own points of both. Beside them how many points the level has in
@@ -145,6 +145,18 @@ pub(crate) fn is_sent(part: &Part, j: i64, i: i64) -> bool
         )
 }
 
+/// The cells that are walked: those that the receiver reaches, and of a halo the sender's own of
+/// them.
+fn walked_box(reached: Rect, own: Rect, outside: bool) -> Rect
+    requires reached { HasNearEnds reached }
+    requires own { HasNearEnds own }
+    ensures near { HasNearEnds result }
+    ensures value { box_of result ≡ (if outside then box_of reached
+        else shared_box (box_of reached) (box_of own)) }
+{
+    if outside { reached } else { meet(reached, own) }
+}
+
 /// The part of a halo, or with `outside` of a period of that width, that a patch fetches from one.
 fn part_between(to: &Patch, from: &Patch, around: HaloPart, outside: bool) -> Part
     requires level { IsLevel to.now.plan.now around.field }
@@ -157,15 +169,17 @@ fn part_between(to: &Patch, from: &Patch, around: HaloPart, outside: bool) -> Pa
 {
     let domain = to.plan.domain(to.domain);
     let extents = domain.extents(to.plan.field(around.field));
+    let reached = reached_box(to, around.field, around.radius, around.radius);
+    let own = own_box(from, around.field);
     Part {
         field: around.field,
         cells: Region {
-            rect: reached_box(to, around.field, around.radius, around.radius),
+            rect: walked_box(reached, own, outside),
             k0: 1,
             k1: extents.levels + 1,
         },
         to: own_box(to, around.field),
-        from: own_box(from, around.field),
+        from: own,
         width: extents.columns,
         height: extents.rows,
         periodic_x: domain.periodic_x,

@@ -6,7 +6,8 @@ use Rattle.wf_field.specs.Kept.{Keeps, number_in}
 use Rattle.wf_field.specs.Settings.{cell_at}
 use Rattle.wf_halo.specs.Parts.{is_sent, row_of, column_of}
 use Rattle.wf_halo.specs.Walks.{sent_number}
-use Rattle.wf_halo.proofs.Walking.{place_there, sent_yes, sent_no, alone}
+use Rattle.wf_halo.proofs.Lists.{alone}
+use Rattle.wf_halo.proofs.Walking.{place_there, sent_yes, sent_no}
 use Rattle.wf_halo.proofs.packing.pack_cell.Goals as goal
 
 pub is_sent-requires-clause-cell : goal.is_sent-requires-clause-cell

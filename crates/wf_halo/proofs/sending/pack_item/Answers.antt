@@ -5,7 +5,7 @@ use Rattle.wf_model.specs.Patches.{Cell}
 use Rattle.wf_field.specs.Kept.{number_in}
 use Rattle.wf_halo.specs.Exchange.{Adds, halo_list, item_cells, period_list}
 use Rattle.wf_halo.proofs.Items.{halo_items, period_items, no_cells}
-use Rattle.wf_halo.proofs.Walking.{alone}
+use Rattle.wf_halo.proofs.Lists.{alone}
 use Rattle.wf_halo.proofs.sending.pack_item.Goals as goal
 
 pub returns-in-Halo : goal.returns-in-Halo
